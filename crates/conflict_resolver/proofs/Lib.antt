@@ -1,0 +1,9 @@
+pub mod WorkedCases
+pub mod Counting
+pub mod Lookups
+pub mod Looks
+pub mod Bound
+pub mod Grant
+pub mod Searches
+pub mod Rows
+pub mod Reservations

@@ -1,0 +1,9 @@
+pub mod Latest
+pub mod Held
+pub mod Seeks
+pub mod Lookups
+pub mod Wires
+pub mod Views
+pub mod Ranks
+pub mod Listings
+pub mod Lawful

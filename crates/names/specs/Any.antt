@@ -1,0 +1,7 @@
+-- Whether a test holds of some element. Assumes nothing.
+use mathlib.Core.Bool.{Bool, false, _||_}
+use mathlib.Core.List.{List, [], _∷_}
+
+abbrev pub any : {X : Type 0} → (X → Bool) → List X → Bool
+any p [] = false
+any p (x ∷ xs) = p x || any p xs

@@ -1,0 +1,5 @@
+pub mod Refusals
+pub mod Spelt
+pub mod Forms
+pub mod Words
+pub mod Any
