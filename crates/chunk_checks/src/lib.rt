@@ -1,4 +1,6 @@
 // The checks of a chunk's tables: every bad one is refused by a number before anything is named.
+#![tactic(auto)]
+
 ghost use Rattle.std.specs.Prelude.{◌≡◌, OnOk};
 ghost use Rattle.chunk_tables.specs.View.{chunk_of};
 ghost use Rattle.chunk_faults.specs.Faults.{Judged};

@@ -1,4 +1,6 @@
 // The faults that a chunk's tables can have, in the order in which they are told.
+#![tactic(auto)]
+
 ghost use Rattle.chunk_faults.specs.Laws.{TellsTheLeastFault, PassesSoundTables};
 
 pub mod sizes;

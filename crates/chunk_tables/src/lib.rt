@@ -1,4 +1,6 @@
 // The tables of a chunk: its modules with their scopes, symbols and references, and what they say before any name is given.
+#![tactic(auto)]
+
 pub mod bindings;
 pub mod chunk;
 pub mod fixed;

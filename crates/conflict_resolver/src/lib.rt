@@ -1,4 +1,6 @@
 // The search for a free name: a base, or the base with `$` and a number behind it.
+#![tactic(auto)]
+
 ghost use Rattle.conflict_resolver.specs.Cases.{Worked};
 
 pub mod policy;

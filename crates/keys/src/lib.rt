@@ -1,4 +1,6 @@
 // What a keyed table asks of its keys, the keys there are, and the check that keys ascend.
+#![tactic(auto)]
+
 pub mod ascend;
 pub mod binding_key;
 pub mod key;

@@ -1,4 +1,6 @@
 // Text by lines and words: what the programs read.
+#![tactic(auto)]
+
 pub mod cut;
 pub mod lines;
 pub mod numeral;

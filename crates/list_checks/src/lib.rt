@@ -1,2 +1,4 @@
 // The checks of lists.
+#![tactic(auto)]
+
 pub mod lists;

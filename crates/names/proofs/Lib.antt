@@ -1,4 +1,3 @@
 pub mod Padding
 pub mod Apart
 pub mod Any
-pub mod Same

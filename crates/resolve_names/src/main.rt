@@ -1,4 +1,6 @@
 // Reads what is to be named from standard input, and prints the names, the refusals and the records.
+#![tactic(auto)]
+
 mod command;
 mod document;
 mod print;

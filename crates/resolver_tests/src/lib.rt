@@ -1,4 +1,6 @@
 // The policies at both ends, and tests of the library on examples: each refusal, and what is left after it.
+#![tactic(auto)]
+
 ghost use Rattle.std.specs.Prelude.{true, false};
 
 use conflict_resolver::policy::Policy;

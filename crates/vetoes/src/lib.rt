@@ -1,4 +1,6 @@
 // A policy that is a list of vetoes, for callers who bring their own.
+#![tactic(auto)]
+
 ghost use Rattle.std.specs.Prelude.{◌≡◌, true, false, ◌||◌, [], ◌∷◌, ◌++◌, is_ok, if◌then◌else◌};
 ghost use Rattle.names.specs.Spelt.{spelt};
 ghost use Rattle.vetoes.specs.Vetoes.{bars, barred};

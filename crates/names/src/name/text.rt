@@ -87,15 +87,17 @@ impl Name {
 
 // Names are equal where their texts are, and that is where they are the same value.
 impl PartialEq for Name {
-    ghost equals = { λ x y r. Decides r (x ≡ y) × (r ≡ bytes_eq (spelt x) (spelt y)) };
+    ghost eq = { λ x y. bytes_eq (spelt x) (spelt y) };
 
-    ghost laws = { Keys.partial_equiv_from_equiv (first_of (Prim.search (comparing, rules), Prim.grind (arith, Self.row.coded.inj))) };
+    ghost laws = { Keys.partial_equiv_from_equiv (Prim.search (comparing, rules)) };
 
-    fn eq(&self, other: &Name) -> bool {
+    fn eq(&self, other: &Name) -> bool
+        ensures { Decides result (self.now ≡ other.now) × (result ≡ bytes_eq (spelt self.now) (spelt other.now)) }
+    {
         self.is(other.as_bytes())
     }
 }
 
 impl Eq for Name {
-    ghost laws = { first_of (Prim.search (comparing, rules), Prim.grind (arith, Self.row.coded.inj)) };
+    ghost laws = { Prim.search (comparing, rules) };
 }

@@ -8,5 +8,5 @@ pub returns : goal.returns
 returns c =
     let x = c.args.self.now in
     let y = c.args.other.now in
-    let e : c.is.result ≡ bytes_eq (spelt x) (spelt y) = c.is.ensures ∙ ap (bytes_eq (spelt x)) c.as-bytes.ensures in
+    let e : c.is.result ≡ bytes_eq (spelt x) (spelt y) = c.is.ensures ∙ ap (bytes_eq (spelt x)) c.as_bytes.ensures in
     (subst (λ r. Decides r (x ≡ y)) (sym e) (name_decides x y), e)
