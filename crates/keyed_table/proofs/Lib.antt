@@ -4,6 +4,5 @@ pub mod Seeks
 pub mod Lookups
 pub mod Wires
 pub mod Views
-pub mod Ranks
 pub mod Listings
 pub mod Lawful

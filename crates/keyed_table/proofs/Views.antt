@@ -14,8 +14,9 @@ use Rattle.keyed_table.proofs.Latest.{upto, upto_one}
 use Rattle.keyed_table.proofs.Held.{shows_held, some_of, front}
 
 -- the invariants of a table, one by one
-pub parts : {K V : Type 0} (slots : List (Slot K V)) (n : ℕ) → Wired slots n → (n ≤ length slots) × (Full slots n × (∥ Heads slots n (homes (length slots) (held slots n)) ∥₁ × (∥ Nexts slots n (homes (length slots) (held slots n)) ∥₁ × (Distinct (held slots n) × Unit {0}))))
-parts slots n w = (w.within, (w.full, (∣ w.heads ∣₁, (∣ w.nexts ∣₁, (w.distinct, tt)))))
+pub parts : {K V : Type 0} (slots : List (Slot K V)) (n : ℕ) → Wired slots n
+    → record { within : n ≤ length slots; full : Full slots n; heads : ∥ Heads slots n (homes (length slots) (held slots n)) ∥₁; nexts : ∥ Nexts slots n (homes (length slots) (held slots n)) ∥₁; distinct : Distinct (held slots n) }
+parts slots n w = record { within = w.within; full = w.full; heads = ∣ w.heads ∣₁; nexts = ∣ w.nexts ∣₁; distinct = w.distinct }
 
 -- an equation of links, out of `∥ ∥₁`
 settled : {A : Type 0} {x y : Option ℕ} → ∥ A ∥₁ → (A → x ≡ y) → x ≡ y

@@ -1,4 +1,5 @@
 pub mod Sorted
+pub mod Ranks
 pub mod Model
 pub mod Laws
 pub mod Links

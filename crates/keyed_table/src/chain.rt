@@ -9,8 +9,8 @@ use keys::key::HashKey;
 
 // Whether it was stored under the key.
 fn is_for<K: HashKey, V>(item: &Stored<K, V>, key: &K, hash: u32) -> bool
-    requires { hash ≡ hashed key.now }
-    ensures { result ≡ names alike hashed item.now key.now }
+    requires { hash ≡ K.hashed key.now }
+    ensures { result ≡ names K.alike K.hashed item.now key.now }
 {
     item.hash == hash && item.key.same(key)
 }
@@ -23,8 +23,8 @@ pub(crate) fn seek<K: HashKey, V>(
     hash: u32,
 ) -> Option<usize>
     requires wired { Wired slots.now len }
-    requires hashes { hash ≡ hashed key.now }
-    ensures { Sought alike hashed (held slots.now len) key.now result }
+    requires hashes { hash ≡ K.hashed key.now }
+    ensures { Sought K.alike K.hashed (held slots.now len) key.now result }
 {
     if slots.len() == 0 {
         return None;

@@ -6,7 +6,7 @@ use crate::key::OrderedKey;
 
 // Whether each key stands below the next.
 pub fn ascends<K: OrderedKey>(keys: &[K]) -> bool
-    ensures { Decides result (Rising under keys.now) }
+    ensures { Decides result (Rising K.under keys.now) }
 {
     for i in 1..keys.len() {
         if !keys[i - 1].below(&keys[i]) {

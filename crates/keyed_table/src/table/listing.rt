@@ -12,7 +12,7 @@ use names::refusal::Refusal;
 impl<K: OrderedKey + Copy, V: Copy> Table<K, V> {
     // Writes the entries to the front of `out`, by ascending keys, and answers how many there are.
     pub fn list(&self, out: &mut [Entry<K, V>]) -> Result<usize, Refusal>
-        ensures { MatchResult result (Listed under K.HashKey.hashed (stored self.now) out.old out.new) (λ e. (number_of e ≡ 15) × (length out.old < length (stored self.now)) × (out.new ≡ out.old)) }
+        ensures { MatchResult result (Listed K.under K.HashKey.hashed (stored self.now) out.old out.new) (λ e. (number_of e ≡ 15) × (length out.old < length (stored self.now)) × (out.new ≡ out.old)) }
     {
         let n = self.len;
         if out.len() < n {

@@ -27,8 +27,8 @@ impl<K: HashKey + Copy, V: Copy> Table<K, V> {
 
     // The place of the key.
     fn place_of(&self, key: &K, hash: u32) -> Option<usize>
-        requires { hash ≡ hashed key.now }
-        ensures { Sought alike hashed (stored self.now) key.now result }
+        requires { hash ≡ K.hashed key.now }
+        ensures { Sought K.alike K.hashed (stored self.now) key.now result }
     {
         chain::seek(self.slots.as_slice(), self.len, key, hash)
     }
@@ -56,7 +56,7 @@ impl<K: HashKey + Copy, V: Copy> Table<K, V> {
 
     // The value under the key.
     pub fn find(&self, key: &K) -> Option<V>
-        ensures { result ≡ lookup alike hashed (stored self.now) key.now }
+        ensures { result ≡ lookup K.alike K.hashed (stored self.now) key.now }
     {
         let place = self.place_of(key, key.hash())?;
         let item = self.stored_at(place)?;
@@ -96,8 +96,8 @@ impl<K: HashKey + Copy, V: Copy> Table<K, V> {
 
     // Sets the value under the key: in its place, or else behind the others, if there is room.
     pub fn insert(&mut self, key: K, value: V) -> Result<(), Refusal>
-        ensures result { is_ok result ≡ takes alike hashed self.old key }
-        ensures stored { stored self.new ≡ (if is_ok result then put alike hashed (stored self.old) key value else stored self.old) }
+        ensures result { is_ok result ≡ takes K.alike K.hashed self.old key }
+        ensures stored { stored self.new ≡ (if is_ok result then put K.alike K.hashed (stored self.old) key value else stored self.old) }
         ensures room { room self.new ≡ room self.old }
         ensures refused { IfErr result (λ e. (number_of e ≡ 10) × (memory self.new ≡ memory self.old) × (self.new.len ≡ self.old.len)) }
     {
@@ -117,5 +117,5 @@ impl<K: HashKey + Copy, V: Copy> Table<K, V> {
 
 // Stands for the laws of `lookup` and `put`: a table is a map from keys to values.
 pub fn laws<K: HashKey, V>()
-    ensures { Laws K V alike hashed }
+    ensures { Laws K V K.alike K.hashed }
 {}

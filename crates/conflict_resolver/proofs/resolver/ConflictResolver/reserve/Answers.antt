@@ -5,29 +5,29 @@ use Rattle.conflict_resolver.specs.Rules.{made}
 use Rattle.conflict_resolver.proofs.Reservations.{none_from, reserve_no_name, reserve_recorded, reserve_full, reserve_new}
 use Rattle.conflict_resolver.proofs.resolver.ConflictResolver.reserve.Goals as goal
 
-pub returns-then-not-is-base : goal.returns-then-not-is-base
-returns-then-not-is-base c = record {
-  rules = reserve_no_name (room c.args.self.now) (held c.args.self.now) (spelt c.args.name.now) (sym c.if-not-is-base.ensures);
+pub returns-then-not-is_base : goal.returns-then-not-is_base
+returns-then-not-is_base c = record {
+  rules = reserve_no_name (room c.args.self.now) (held c.args.self.now) (spelt c.args.name.now) (sym c.if-not-is_base.ensures);
   room = refl;
 }
 
 pub returns-then-contains : goal.returns-then-contains
 returns-then-contains c = record {
-  rules = reserve_recorded (room c.args.self.now) (held c.args.self.now) (spelt c.args.name.now) (sym c.if-not-is-base.ensures) (sym c.if-contains.ensures);
+  rules = reserve_recorded (room c.args.self.now) (held c.args.self.now) (spelt c.args.name.now) (sym c.if-not-is_base.ensures) (sym c.if-contains.ensures);
   room = refl;
 }
 
 pub returns-then-free-eq0 : goal.returns-then-free-eq0
 returns-then-free-eq0 c = record {
-  rules = reserve_full (room c.args.self.now) (held c.args.self.now) (spelt c.args.name.now) (sym c.if-not-is-base.ensures) (none_from _ (sym c.if-contains.ensures)) (omega arith);
+  rules = reserve_full (room c.args.self.now) (held c.args.self.now) (spelt c.args.name.now) (sym c.if-not-is_base.ensures) (none_from _ (sym c.if-contains.ensures)) (omega arith);
   room = refl;
 }
 
-pub put-on-record-requires : goal.put-on-record-requires
-put-on-record-requires c = record { unrecorded = none_from _ (sym c.if-contains.ensures); free = omega arith }
+pub put_on_record-requires : goal.put_on_record-requires
+put_on_record-requires c = record { unrecorded = none_from _ (sym c.if-contains.ensures); free = omega arith }
 
 pub returns : goal.returns
 returns c = record {
-  rules = ap made c.put-on-record.ensures.records ∙ reserve_new (room c.args.self.now) (held c.args.self.now) (spelt c.args.name.now) (sym c.if-not-is-base.ensures) (none_from _ (sym c.if-contains.ensures)) (omega arith);
-  room = c.put-on-record.ensures.room;
+  rules = ap made c.put_on_record.ensures.records ∙ reserve_new (room c.args.self.now) (held c.args.self.now) (spelt c.args.name.now) (sym c.if-not-is_base.ensures) (none_from _ (sym c.if-contains.ensures)) (omega arith);
+  room = c.put_on_record.ensures.room;
 }

@@ -6,17 +6,17 @@ use Rattle.conflict_resolver.specs.Rules.{granted, refused, next}
 use Rattle.conflict_resolver.proofs.Searches.{no_base, no_room, begins, ends_at_once, sound_of, bounded_of}
 use Rattle.conflict_resolver.proofs.resolver.ConflictResolver.resolve.Goals as goal
 
-pub returns-then-not-is-base : goal.returns-then-not-is-base
-returns-then-not-is-base g c =
+pub returns-then-not-is_base : goal.returns-then-not-is_base
+returns-then-not-is_base g c =
     let v = g.P.Policy.vetoes c.args.policy.now in
     let b = spelt c.args.base.now in
     let es = held c.args.self.now in
     let n = room c.args.self.now in
-    let e = no_base v b n es (sym c.if-not-is-base.ensures) in
+    let e = no_base v b n es (sym c.if-not-is_base.ensures) in
     record {
-      follows-the-rules = e;
-      grants-a-new-unvetoed-name = sound_of v b n es (refused es 7) e;
-      probes-are-bounded = bounded_of v b n es (refused es 7) e;
+      follows_the_rules = e;
+      grants_a_new_unvetoed_name = sound_of v b n es (refused es 7) e;
+      probes_are_bounded = bounded_of v b n es (refused es 7) e;
       room = refl;
     }
 
@@ -26,11 +26,11 @@ returns-then-free-eq0 g c =
     let b = spelt c.args.base.now in
     let es = held c.args.self.now in
     let n = room c.args.self.now in
-    let e = no_room v b n es (sym c.if-not-is-base.ensures) (omega arith) in
+    let e = no_room v b n es (sym c.if-not-is_base.ensures) (omega arith) in
     record {
-      follows-the-rules = e;
-      grants-a-new-unvetoed-name = sound_of v b n es (refused es 10) e;
-      probes-are-bounded = bounded_of v b n es (refused es 10) e;
+      follows_the_rules = e;
+      grants_a_new_unvetoed_name = sound_of v b n es (refused es 10) e;
+      probes_are_bounded = bounded_of v b n es (refused es 10) e;
       room = refl;
     }
 
@@ -40,12 +40,12 @@ returns-in-Next g c =
     let b = spelt c.args.base.now in
     let es = held c.args.self.now in
     let n = room c.args.self.now in
-    let e = c.search-forms.ensures.runs ∙ begins v b n es (next (held c.look.new.self) c.in-Next.first 0) (sym c.if-not-is-base.ensures) (omega arith) (c.in-Next.ensures.follows 0) in
+    let e = c.search_forms.ensures.runs ∙ begins v b n es (next (held c.look.new.self) c.in-Next.first 0) (sym c.if-not-is_base.ensures) (omega arith) (c.in-Next.ensures.follows 0) in
     record {
-      follows-the-rules = e;
-      grants-a-new-unvetoed-name = sound_of v b n es (answered c.search-forms.result (held c.search-forms.new.self)) e;
-      probes-are-bounded = bounded_of v b n es (answered c.search-forms.result (held c.search-forms.new.self)) e;
-      room = c.search-forms.ensures.room ∙ c.look.ensures.room;
+      follows_the_rules = e;
+      grants_a_new_unvetoed_name = sound_of v b n es (answered c.search_forms.result (held c.search_forms.new.self)) e;
+      probes_are_bounded = bounded_of v b n es (answered c.search_forms.result (held c.search_forms.new.self)) e;
+      room = c.search_forms.ensures.room ∙ c.look.ensures.room;
     }
 
 pub returns-in-Free : goal.returns-in-Free
@@ -54,11 +54,11 @@ returns-in-Free g c =
     let b = spelt c.args.base.now in
     let es = held c.args.self.now in
     let n = room c.args.self.now in
-    let e = ends_at_once v b n es (granted (held c.look.new.self) b 0) (sym c.if-not-is-base.ensures) (omega arith) (c.in-Free.ensures.follows 0) in
+    let e = ends_at_once v b n es (granted (held c.look.new.self) b 0) (sym c.if-not-is_base.ensures) (omega arith) (c.in-Free.ensures.follows 0) in
     record {
-      follows-the-rules = e;
-      grants-a-new-unvetoed-name = sound_of v b n es (granted (held c.look.new.self) b 0) e;
-      probes-are-bounded = bounded_of v b n es (granted (held c.look.new.self) b 0) e;
+      follows_the_rules = e;
+      grants_a_new_unvetoed_name = sound_of v b n es (granted (held c.look.new.self) b 0) e;
+      probes_are_bounded = bounded_of v b n es (granted (held c.look.new.self) b 0) e;
       room = c.look.ensures.room;
     }
 
@@ -68,10 +68,10 @@ returns-in-Over g c =
     let b = spelt c.args.base.now in
     let es = held c.args.self.now in
     let n = room c.args.self.now in
-    let e = ends_at_once v b n es (refused (held c.look.new.self) 11) (sym c.if-not-is-base.ensures) (omega arith) (c.in-Over.ensures.follows 0) in
+    let e = ends_at_once v b n es (refused (held c.look.new.self) 11) (sym c.if-not-is_base.ensures) (omega arith) (c.in-Over.ensures.follows 0) in
     record {
-      follows-the-rules = e;
-      grants-a-new-unvetoed-name = sound_of v b n es (refused (held c.look.new.self) 11) e;
-      probes-are-bounded = bounded_of v b n es (refused (held c.look.new.self) 11) e;
+      follows_the_rules = e;
+      grants_a_new_unvetoed_name = sound_of v b n es (refused (held c.look.new.self) 11) e;
+      probes_are_bounded = bounded_of v b n es (refused (held c.look.new.self) 11) e;
       room = c.look.ensures.room;
     }

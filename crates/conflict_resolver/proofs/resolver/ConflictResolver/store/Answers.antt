@@ -1,8 +1,8 @@
 use Rattle.conflict_resolver.proofs.Rows.{tagged_put, once_put, rows_put}
 use Rattle.conflict_resolver.proofs.resolver.ConflictResolver.store.Goals as goal
 
-pub invariant-of-self : goal.invariant-of-self
-invariant-of-self c =
+pub invariant_of-self : goal.invariant_of-self
+invariant_of-self c =
     let r = c.args.self.now in
     let k = c.args.name.now in
     let v = c.args.counter in

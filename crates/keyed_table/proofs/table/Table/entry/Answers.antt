@@ -5,9 +5,9 @@ use Rattle.keyed_table.specs.View.{stored}
 use Rattle.keyed_table.proofs.Held.{nth_map}
 use Rattle.keyed_table.proofs.table.Table.entry.Goals as goal
 
-pub returns-in-err-item : goal.returns-in-err-item
-returns-in-err-item g c =
-    c.from-residual.ensures ∙ sym (nth_map plain (stored c.args.self.now) c.args.i ∙ ap (option_map plain) (sym c.stored-at.ensures ∙ c.in-err-item.was))
+pub returns-in_err-item : goal.returns-in_err-item
+returns-in_err-item g c =
+    c.from_residual.ensures ∙ sym (nth_map plain (stored c.args.self.now) c.args.i ∙ ap (option_map plain) (sym c.stored_at.ensures ∙ c.in_err-item.was))
 
 pub returns : goal.returns
-returns g c = sym (nth_map plain (stored c.args.self.now) c.args.i ∙ ap (option_map plain) (sym c.stored-at.ensures ∙ c.in-ok-item.was))
+returns g c = sym (nth_map plain (stored c.args.self.now) c.args.i ∙ ap (option_map plain) (sym c.stored_at.ensures ∙ c.in_ok-item.was))

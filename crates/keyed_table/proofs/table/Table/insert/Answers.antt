@@ -34,7 +34,7 @@ pub returns-then-free-eq0 : goal.returns-then-free-eq0
 returns-then-free-eq0 g c =
     let t = c.args.self.now in
     let n = len_is t in
-    let none = lookup_none _ _ _ _ c.in-default.ensures in
+    let none = lookup_none _ _ _ _ c.in_default.ensures in
     record {
       result = sym (or_from _ _ (ap is_some none) (le-ltb (length (stored t)) (room t) (omega arith)));
       stored = refl;
@@ -48,7 +48,7 @@ append-requires g c =
     let n = len_is t in
     record {
       space = omega arith;
-      fresh = distinct_push _ g.K.HashKey.hashed g.met.K.HashKey.tells _ _ t.distinct _ c.hash-hash.ensures refl c.in-default.ensures;
+      fresh = distinct_push _ g.K.HashKey.hashed g.met.K.HashKey.tells _ _ t.distinct _ c.hash-hash.ensures refl c.in_default.ensures;
     }
 
 pub returns : goal.returns
@@ -56,7 +56,7 @@ returns g c =
     let k = g.K.HashKey in
     let t = c.args.self.now in
     let n = len_is t in
-    let puts = put_none k.alike k.hashed (stored t) c.args.key c.args.value c.in-default.ensures in
+    let puts = put_none k.alike k.hashed (stored t) c.args.key c.args.value c.in_default.ensures in
     record {
       result = sym (or_right _ _ (lt-ltb (length (stored t)) (room t) (omega arith)));
       stored = c.append.ensures.stored ∙ ap (λ h. stored t ++ record { hash = h; key = c.args.key; value = c.args.value } ∷ []) c.hash-hash.ensures ∙ sym puts;

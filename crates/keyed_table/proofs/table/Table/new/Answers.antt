@@ -5,8 +5,8 @@ use Rattle.keyed_table.proofs.Views.{parts}
 use Rattle.keyed_table.proofs.Wires.{wired_blank}
 use Rattle.keyed_table.proofs.table.Table.new.Goals as goal
 
-pub invariant-of-result : goal.invariant-of-result
-invariant-of-result g c =
+pub invariant_of-result : goal.invariant_of-result
+invariant_of-result g c =
     let v = c.args.slots in
     let ws = c.wipe.new.slots in
     let long : length ws ≡ v.len = omega arith in

@@ -10,4 +10,4 @@ returns-then-i-self g c = let t = c.args.self.now in let n = len_is t in sym (sl
 pub returns : goal.returns
 returns g c =
     let i = c.args.i in
-    nth_is c.args.self.now i c.if-i-self.false c.stored-in.result (λ d. c.stored-in.ensures d ∙ ap (λ ss. (get_or ss i d).stored) c.as-slice.ensures.value)
+    nth_is c.args.self.now i c.if-i-self.false c.stored_in.result (λ d. c.stored_in.ensures d ∙ ap (λ ss. (get_or ss i d).stored) c.as_slice.ensures.value)

@@ -8,7 +8,7 @@ use Rattle.keys.proofs.name_key.NameOrderedKey.below.Goals as goal
 
 pub returns : goal.returns
 returns c =
-    let x = c.as-bytes.result.now in
-    let y = c.as-bytes-2.result.now in
+    let x = c.as_bytes.result.now in
+    let y = c.as_bytes-2.result.now in
     same_from_slice_cmp_tested nat_cmp is_lt lex refl (λ _ _. refl) (λ _ _. refl) (λ a b s t o h. grind (arith, nat_tests)) x y c.lt.result c.lt.ensures
-    ∙ ap (λ t. lex t y) c.as-bytes.ensures ∙ ap (lex (spelt c.args.self.now)) c.as-bytes-2.ensures
+    ∙ ap (λ t. lex t y) c.as_bytes.ensures ∙ ap (lex (spelt c.args.self.now)) c.as_bytes-2.ensures

@@ -14,6 +14,6 @@ pub returns : goal.returns
 returns c =
     let xs = c.args.self.now.rest.now in
     record {
-      steps = (c.trim-front.ensures ∙ ap trimmed c.cut.ensures.before, c.cut.ensures.behind, c.saturating-add-self.ensures);
+      steps = (c.trim_front.ensures ∙ ap trimmed c.cut.ensures.before, c.cut.ensures.behind, c.saturating_add-self.ensures);
       goes = firm ((tt, tt, subst (λ ys. length ys < length xs) (sym c.cut.ensures.behind) (past_shorter 10 xs c.if-self-eq0.false))) (λ h. search rules);
     }
