@@ -43,7 +43,7 @@ impl ConflictResolver {
     fn look<P: Policy>(&mut self, candidate: &Name, k: u16, bare: bool, policy: &P) -> Look
         requires free { length (held self.old) < room self.old }
         requires number { k ≤ 9999 }
-        ensures follows { (p : ℕ) → looked result (held self.new) (spelt candidate.now) p ≡ follow (held self.old) (spelt candidate.now) k p (sight (counter_of (held self.old) (spelt candidate.now)) (vetoes policy.now (spelt candidate.now) bare)) }
+        ensures follows { (p : ℕ) → looked result (held self.new) (spelt candidate.now) p ≡ follow (held self.old) (spelt candidate.now) k p (sight (counter_of (held self.old) (spelt candidate.now)) (P.vetoes policy.now (spelt candidate.now) bare)) }
         ensures going { Going result self.new }
         ensures room { room self.new ≡ room self.old }
     {
@@ -74,7 +74,7 @@ impl ConflictResolver {
         requires base { is_base (spelt base.now) ≡ true }
         requires number { Suffix first }
         requires free { length (held self.old) < room self.old }
-        ensures runs { answered result (held self.new) ≡ run (vetoes policy.now) (spelt base.now) 4096 (next (held self.old) first 0) }
+        ensures runs { answered result (held self.new) ≡ run (P.vetoes policy.now) (spelt base.now) 4096 (next (held self.old) first 0) }
         ensures room { room self.new ≡ room self.old }
     {
         let mut conflict_index = first;
@@ -100,9 +100,9 @@ impl ConflictResolver {
 
     // A name for `base` that is not on record and not vetoed: the base itself, or a numbered form of it.
     pub fn resolve<P: Policy>(&mut self, base: &Name, policy: &P) -> Result<Resolved, Refusal>
-        ensures follows_the_rules { answered result (held self.new) ≡ searched (vetoes policy.now) (spelt base.now) (room self.old) (held self.old) }
-        ensures grants_a_new_unvetoed_name { Sound (vetoes policy.now) (spelt base.now) (held self.old) (answered result (held self.new)) }
-        ensures probes_are_bounded { Bounded (vetoes policy.now) (spelt base.now) (held self.old) (answered result (held self.new)) }
+        ensures follows_the_rules { answered result (held self.new) ≡ searched (P.vetoes policy.now) (spelt base.now) (room self.old) (held self.old) }
+        ensures grants_a_new_unvetoed_name { Sound (P.vetoes policy.now) (spelt base.now) (held self.old) (answered result (held self.new)) }
+        ensures probes_are_bounded { Bounded (P.vetoes policy.now) (spelt base.now) (held self.old) (answered result (held self.new)) }
         ensures room { room self.new ≡ room self.old }
     {
         if !is_base(base) {

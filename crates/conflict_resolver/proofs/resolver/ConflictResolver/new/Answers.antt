@@ -5,4 +5,7 @@ use Rattle.conflict_resolver.proofs.Rows.{once_none}
 use Rattle.conflict_resolver.proofs.resolver.ConflictResolver.new.Goals as goal
 
 pub invariant_of-result : goal.invariant_of-result
-invariant_of-result c = (subst (Tagged name_hash) (sym c.new.ensures.stored) (λ i d l. absurd (omega arith)), (∣ once_none _ c.new.ensures.stored ∣₁, tt))
+invariant_of-result c = record {
+  tagged = subst (Tagged name_hash) (sym c.new.ensures.stored) (λ i d l. absurd (omega arith));
+  once = ∣ once_none _ c.new.ensures.stored ∣₁;
+}

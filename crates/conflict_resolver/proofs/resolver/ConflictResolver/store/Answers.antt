@@ -8,7 +8,10 @@ invariant_of-self c =
     let v = c.args.counter in
     let laws = c.laws.ensures in
     let put = c.insert.ensures in
-    (tagged_put r.used k v _ _ laws r.tagged c.requires put.result put.stored, (once_put r.used k v _ _ laws r.tagged c.requires put.result put.stored r.once, tt))
+    record {
+      tagged = tagged_put r.used k v _ _ laws r.tagged c.requires put.result put.stored;
+      once = once_put r.used k v _ _ laws r.tagged c.requires put.result put.stored r.once;
+    }
 
 pub returns : goal.returns
 returns c =
