@@ -21,7 +21,7 @@ pub trait Bindings {
 
 // The binding of a name in the first of the scopes that binds it.
 pub fn nearest_among<B: Bindings>(bindings: &B, scopes: Ancestors<'_>, name: &[u8]) -> Option<usize>
-    ensures { result ≡ first_found (λ s. bound bindings.now s name.now) (to_come scopes.entry) }
+    ensures { result ≡ first_found (λ s. B.bound bindings.now s name.now) (to_come scopes.entry) }
 {
     for scope in scopes {
         let found = bindings.get_binding(scope, name);

@@ -7,7 +7,7 @@ returns c =
     let t = chunk_of c.args.chunk.now in
     let z = c.args.sizes.now in
     record {
-      follows-the-rules = c.check-tables.ensures;
-      refuses-the-least-fault = judges t z c.check-tables.result c.check-tables.ensures;
-      grants-sound-tables = grants t z c.check-tables.result c.check-tables.ensures;
+      follows_the_rules = c.check_tables.ensures;
+      refuses_the_least_fault = judges t z c.check_tables.result c.check_tables.ensures;
+      grants_sound_tables = grants t z c.check_tables.result c.check_tables.ensures;
     }

@@ -4,4 +4,4 @@ use Rattle.binding_index.proofs.build.note.Goals as goal
 
 pub returns : goal.returns
 returns c =
-    noted_put (stored c.args.table.now) c.args.key c.args.number c.laws.ensures c.find.result c.find.ensures c.unwrap-or-first.result c.unwrap-or-first.ensures c.insert.result _ c.insert.ensures.stored
+    noted_put (stored c.args.table.now) c.args.key c.args.number c.laws.ensures c.find.result c.find.ensures c.unwrap_or-first.result c.unwrap_or-first.ensures c.insert.result _ c.insert.ensures.stored

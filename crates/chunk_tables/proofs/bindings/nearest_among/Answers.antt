@@ -9,14 +9,14 @@ loop-scope-preserved g c =
     let f : ℕ → Option ℕ = λ s. g.B.Bindings.bound c.args.bindings.now s c.args.name.now in (
       tt,
       tt,
-      sym (ap (first_found f) c.in-Some.ensures.steps ∙ found_miss f c.in-Some.scope _ (ap is_some (sym c.get-binding-found.ensures) ∙ sym c.if-is-some.ensures))
+      sym (ap (first_found f) c.in-Some.ensures.steps ∙ found_miss f c.in-Some.scope _ (ap is_some (sym c.get_binding-found.ensures) ∙ sym c.if-is_some.ensures))
           ∙ c.loop-scope.invariant.2,
     )
 
-pub returns-then-is-some : goal.returns-then-is-some
-returns-then-is-some g c =
+pub returns-then-is_some : goal.returns-then-is_some
+returns-then-is_some g c =
     let f : ℕ → Option ℕ = λ s. g.B.Bindings.bound c.args.bindings.now s c.args.name.now in
-    c.get-binding-found.ensures
-    ∙ sym (found_hit f c.in-Some.scope _ (ap is_some (sym c.get-binding-found.ensures) ∙ sym c.if-is-some.ensures))
+    c.get_binding-found.ensures
+    ∙ sym (found_hit f c.in-Some.scope _ (ap is_some (sym c.get_binding-found.ensures) ∙ sym c.if-is_some.ensures))
     ∙ sym (ap (first_found f) c.in-Some.ensures.steps)
-    ∙ c.loop-scope.invariant.2 ∙ ap (λ a. first_found f (to_come a)) c.into-iter-scope-iterator.ensures.into-iter-gives
+    ∙ c.loop-scope.invariant.2 ∙ ap (λ a. first_found f (to_come a)) c.into_iter-scope-iterator.ensures.into_iter_gives

@@ -4,4 +4,4 @@ use Rattle.chunk_faults.proofs.Loops.{views_are}
 use Rattle.list_checks.proofs.lists.check_globals.Goals as goal
 
 pub returns : goal.returns
-returns c = c.check-rows.ensures ∙ views_are vec_items name_tests _ _ c.as-slice.ensures.value
+returns c = c.check_rows.ensures ∙ views_are vec_items name_tests _ _ c.as_slice.ensures.value

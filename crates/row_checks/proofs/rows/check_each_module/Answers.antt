@@ -8,15 +8,15 @@ use Rattle.row_checks.proofs.rows.check_each_module.Goals as goal
 pub loop-module-preserved : goal.loop-module-preserved
 loop-module-preserved g c =
     let f : Module → Option ℕ = λ m. first_found least (g.C.ModuleCheck.records c.args.by.now m) in
-    sym (over_miss f c.args.modules.now c.loop-module.module-index c.module-item.result c.loop-module-test.true c.module-item.is c.in-ok-check-module.ensures)
+    sym (over_miss f c.args.modules.now c.loop-module.module-index c.module-item.result c.loop-module-test.true c.module-item.is c.in_ok-check_module.ensures)
     ∙ c.loop-module.invariant
 
-pub returns-in-err-check-module : goal.returns-in-err-check-module
-returns-in-err-check-module g c =
+pub returns-in_err-check_module : goal.returns-in_err-check_module
+returns-in_err-check_module g c =
     let h = g.C.ModuleCheck.records c.args.by.now in
     let f : Module → Option ℕ = λ m. first_found least (h m) in
-    exit _ _ c.from-residual.ensures.1
-    ∙ sym (over_hit f c.args.modules.now c.loop-module.module-index c.module-item.result c.loop-module-test.true c.module-item.is _ c.in-err-check-module.ensures)
+    exit _ _ c.from_residual.ensures.1
+    ∙ sym (over_hit f c.args.modules.now c.loop-module.module-index c.module-item.result c.loop-module-test.true c.module-item.is _ c.in_err-check_module.ensures)
     ∙ c.loop-module.invariant ∙ over_joined least h c.args.modules.now
 
 pub returns : goal.returns

@@ -4,13 +4,13 @@ use Rattle.row_checks.proofs.rows.check_rows.Goals as goal
 
 pub loop-i-preserved : goal.loop-i-preserved
 loop-i-preserved g c =
-    sym (row_miss (g.C.RowCheck.tests c.args.by.now) c.args.rows.now c.loop-i.i c.index-rows-i.result c.loop-i-test.true c.index-rows-i.is c.in-ok-check.ensures)
+    sym (row_miss (g.C.RowCheck.tests c.args.by.now) c.args.rows.now c.loop-i.i c.index-rows-i.result c.loop-i-test.true c.index-rows-i.is c.in_ok-check.ensures)
     ∙ c.loop-i.invariant
 
-pub returns-in-err-check : goal.returns-in-err-check
-returns-in-err-check g c =
-    exit _ _ c.from-residual.ensures.1
-    ∙ sym (row_hit (g.C.RowCheck.tests c.args.by.now) c.args.rows.now c.loop-i.i c.index-rows-i.result c.loop-i-test.true c.index-rows-i.is _ c.in-err-check.ensures)
+pub returns-in_err-check : goal.returns-in_err-check
+returns-in_err-check g c =
+    exit _ _ c.from_residual.ensures.1
+    ∙ sym (row_hit (g.C.RowCheck.tests c.args.by.now) c.args.rows.now c.loop-i.i c.index-rows-i.result c.loop-i-test.true c.index-rows-i.is _ c.in_err-check.ensures)
     ∙ c.loop-i.invariant
 
 pub returns : goal.returns

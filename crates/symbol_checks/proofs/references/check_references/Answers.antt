@@ -5,4 +5,4 @@ use Rattle.chunk_faults.proofs.Loops.{modules_are}
 use Rattle.symbol_checks.proofs.references.check_references.Goals as goal
 
 pub returns : goal.returns
-returns c = c.check-each-module.ensures ∙ modules_are module_of (reference_rows (chunk_of c.args.chunk.now)) _ _ c.as-slice.ensures.value
+returns c = c.check_each_module.ensures ∙ modules_are module_of (reference_rows (chunk_of c.args.chunk.now)) _ _ c.as_slice.ensures.value

@@ -15,7 +15,7 @@ by_first M i y n o b e h =
     ∙ sym (ap (λ t. t && any (binds_in y.scope y.name) (take i M.symbols)) b)
 
 pub returns-in-Some : goal.returns-in-Some
-returns-in-Some c = by_first (module_of c.args.indexed.now.module.now) c.args.number (symbol_of c.args.symbol.now) _ _ c.if-not-symbol.false c.as-slice.ensures.value c.in-Some.ensures
+returns-in-Some c = by_first (module_of c.args.indexed.now.module.now) c.args.number (symbol_of c.args.symbol.now) _ _ c.if-not-symbol.false c.as_slice.ensures.value c.in-Some.ensures
 
 pub returns-in-None : goal.returns-in-None
-returns-in-None c = by_first (module_of c.args.indexed.now.module.now) c.args.number (symbol_of c.args.symbol.now) _ _ c.if-not-symbol.false c.as-slice.ensures.value c.in-None.ensures
+returns-in-None c = by_first (module_of c.args.indexed.now.module.now) c.args.number (symbol_of c.args.symbol.now) _ _ c.if-not-symbol.false c.as_slice.ensures.value c.in-None.ensures

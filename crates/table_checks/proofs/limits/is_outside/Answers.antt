@@ -4,14 +4,14 @@ use Rattle.chunk_tables.proofs.RowViews.{rows_len}
 use Rattle.table_checks.proofs.Totals.{outside_over, outside_under}
 use Rattle.table_checks.proofs.limits.is_outside.Goals as goal
 
-pub returns-then-is-over-limits : goal.returns-then-is-over-limits
-returns-then-is-over-limits c =
+pub returns-then-is_over_limits : goal.returns-then-is_over_limits
+returns-then-is_over_limits c =
     let t = c.args.chunk.now in
-    c.if-is-over-limits.true
-    ∙ outside_over (chunk_of t) c.args.sizes.now c.of-totals.result c.of-totals.ensures _ _ (c.len-modules.ensures ∙ rows_len module_of t.modules) (c.len-others.ensures ∙ rows_len other_of t.other_chunks) c.if-is-over-limits.ensures
+    c.if-is_over_limits.true
+    ∙ outside_over (chunk_of t) c.args.sizes.now c.of-totals.result c.of-totals.ensures _ _ (c.len-modules.ensures ∙ rows_len module_of t.modules) (c.len-others.ensures ∙ rows_len other_of t.other_chunks) c.if-is_over_limits.ensures
 
-pub returns-else-is-over-limits : goal.returns-else-is-over-limits
-returns-else-is-over-limits c =
+pub returns-else-is_over_limits : goal.returns-else-is_over_limits
+returns-else-is_over_limits c =
     let t = c.args.chunk.now in
-    c.is-under-sizes.ensures
-    ∙ outside_under (chunk_of t) c.args.sizes.now c.of-totals.result c.of-totals.ensures _ _ (c.len-modules.ensures ∙ rows_len module_of t.modules) (c.len-others.ensures ∙ rows_len other_of t.other_chunks) c.if-is-over-limits.ensures
+    c.is_under_sizes.ensures
+    ∙ outside_under (chunk_of t) c.args.sizes.now c.of-totals.result c.of-totals.ensures _ _ (c.len-modules.ensures ∙ rows_len module_of t.modules) (c.len-others.ensures ∙ rows_len other_of t.other_chunks) c.if-is_over_limits.ensures

@@ -23,12 +23,12 @@ some_module t (x ∷ xs) ne = refl
 
 pub returns-then-modules-eq0 : goal.returns-then-modules-eq0
 returns-then-modules-eq0 c =
-    c.check-no-module.ensures
-    ∙ no_module (chunk_of c.args.chunk.now) (vec_items c.args.chunk.now.modules) (ap length (sym c.as-slice-modules.ensures.value) ∙ c.if-modules-eq0.true)
+    c.check_no_module.ensures
+    ∙ no_module (chunk_of c.args.chunk.now) (vec_items c.args.chunk.now.modules) (ap length (sym c.as_slice-modules.ensures.value) ∙ c.if-modules-eq0.true)
 
 pub returns : goal.returns
 returns c =
     let t = chunk_of c.args.chunk.now in
-    let v = c.as-slice-modules.ensures.value in
-    c.check-rows.ensures ∙ rows_are module_of (module_tests t) _ _ v
+    let v = c.as_slice-modules.ensures.value in
+    c.check_rows.ensures ∙ rows_are module_of (module_tests t) _ _ v
     ∙ some_module t (vec_items c.args.chunk.now.modules) (λ e. c.if-modules-eq0.false (ap length v ∙ e))

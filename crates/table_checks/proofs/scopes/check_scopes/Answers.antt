@@ -5,4 +5,4 @@ use Rattle.chunk_faults.proofs.Loops.{modules_are}
 use Rattle.table_checks.proofs.scopes.check_scopes.Goals as goal
 
 pub returns : goal.returns
-returns c = c.check-each-module.ensures ∙ modules_are module_of scope_rows _ _ c.as-slice.ensures.value
+returns c = c.check_each_module.ensures ∙ modules_are module_of scope_rows _ _ c.as_slice.ensures.value

@@ -3,5 +3,5 @@ use Rattle.chunk_tables.specs.View.{symbol_of}
 use Rattle.binding_index.specs.Indexes.{Indexes}
 use Rattle.binding_index.proofs.indexed.IndexedModule.new.Goals as goal
 
-pub invariant-of-result : goal.invariant-of-result
-invariant-of-result c = (∣ subst (λ ys. Indexes (map symbol_of ys) c.index-of-index.result) c.as-slice.ensures.value c.index-of-index.ensures ∣₁, tt)
+pub invariant_of-result : goal.invariant_of-result
+invariant_of-result c = (∣ subst (λ ys. Indexes (map symbol_of ys) c.index_of-index.result) c.as_slice.ensures.value c.index_of-index.ensures ∣₁, tt)

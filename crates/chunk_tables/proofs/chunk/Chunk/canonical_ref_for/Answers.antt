@@ -3,4 +3,4 @@ use Rattle.chunk_tables.proofs.chunk.Chunk.canonical_ref_for.Goals as goal
 
 pub returns : goal.returns
 unfolding canonical
-returns c = c.follow-links.ensures
+returns c = c.follow_links.ensures

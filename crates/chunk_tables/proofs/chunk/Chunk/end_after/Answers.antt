@@ -3,4 +3,4 @@ use Rattle.chunk_tables.proofs.chunk.Chunk.end_after.Goals as goal
 
 pub returns : goal.returns
 unfolding end_after
-returns c = c.follow-links.ensures
+returns c = c.follow_links.ensures

@@ -5,4 +5,4 @@ use Rattle.chunk_tables.proofs.chunk.Chunk.symbol_at.Goals as goal
 
 pub returns : goal.returns
 returns c =
-    c.symbol-at.ensures ∙ ap (λ o. maybe o None (λ M. slice_get M.symbols c.args.symbol.symbol)) c.in-ok-module.ensures
+    c.symbol_at.ensures ∙ ap (λ o. maybe o None (λ M. slice_get M.symbols c.args.symbol.symbol)) c.in_ok-module.ensures

@@ -11,4 +11,4 @@ returns c =
     let ps = map parent_of a.scopes.now in
     let s = c.in-Some.scope in
     ap (λ o. maybe o [] (ancestors ps a.root)) c.in-Some.is ∙ onward ps a.root s c.if-scope-eq0.false
-    ∙ ap (λ o. s ∷ maybe o [] (ancestors ps a.root)) (sym c.parent-in-self.ensures)
+    ∙ ap (λ o. s ∷ maybe o [] (ancestors ps a.root)) (sym c.parent_in-self.ensures)

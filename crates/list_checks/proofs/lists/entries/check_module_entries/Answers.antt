@@ -5,4 +5,4 @@ use Rattle.chunk_faults.proofs.Loops.{entries_are}
 use Rattle.list_checks.proofs.lists.entries.check_module_entries.Goals as goal
 
 pub returns : goal.returns
-returns c = c.check-rows.ensures ∙ entries_are (module_entry (chunk_of c.args.chunk.now)) c.args.numbers.now c.args.numbers.now refl
+returns c = c.check_rows.ensures ∙ entries_are (module_entry (chunk_of c.args.chunk.now)) c.args.numbers.now c.args.numbers.now refl

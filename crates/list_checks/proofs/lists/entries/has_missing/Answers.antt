@@ -15,14 +15,14 @@ loop-symbol-preserved c =
     let xs = c.args.symbols.now in
     let i = c.loop-symbol.symbol-index in
     let h = c.loop-symbol-test.true in
-    sym (any_miss (missing (chunk_of c.args.chunk.now)) xs i _ h (get_or_default xs i blank _ h) (sym c.if-is-missing.ensures)) ∙ c.loop-symbol.invariant
+    sym (any_miss (missing (chunk_of c.args.chunk.now)) xs i _ h (get_or_default xs i blank _ h) (sym c.if-is_missing.ensures)) ∙ c.loop-symbol.invariant
 
-pub returns-then-is-missing : goal.returns-then-is-missing
-returns-then-is-missing c =
+pub returns-then-is_missing : goal.returns-then-is_missing
+returns-then-is_missing c =
     let xs = c.args.symbols.now in
     let i = c.loop-symbol.symbol-index in
     let h = c.loop-symbol-test.true in
-    sym (any_hit (missing (chunk_of c.args.chunk.now)) xs i _ h (get_or_default xs i blank _ h) (sym c.if-is-missing.ensures)) ∙ c.loop-symbol.invariant
+    sym (any_hit (missing (chunk_of c.args.chunk.now)) xs i _ h (get_or_default xs i blank _ h) (sym c.if-is_missing.ensures)) ∙ c.loop-symbol.invariant
 
 pub returns : goal.returns
 returns c = sym (any_none (missing (chunk_of c.args.chunk.now)) c.args.symbols.now c.loop-symbol.symbol-index c.loop-symbol-test.false) ∙ c.loop-symbol.invariant

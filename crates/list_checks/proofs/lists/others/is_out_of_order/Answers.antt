@@ -13,9 +13,9 @@ by_row xs ys k n o e h = ap (λ v. maybe v false (λ p. not (ltb p.number n))) (
 
 pub returns-in-Some : goal.returns-in-Some
 returns-in-Some c =
-    c.is-not-above.ensures
-    ∙ by_row (vec_items c.args.chunk.now.other_chunks) c.as-slice.result.now c.args.k c.args.other.now.index.0 _ c.as-slice.ensures.value c.in-Some.ensures
+    c.is_not_above.ensures
+    ∙ by_row (vec_items c.args.chunk.now.other_chunks) c.as_slice.result.now c.args.k c.args.other.now.index.0 _ c.as_slice.ensures.value c.in-Some.ensures
 
 pub returns-in-None : goal.returns-in-None
 returns-in-None c =
-    by_row (vec_items c.args.chunk.now.other_chunks) c.as-slice.result.now c.args.k c.args.other.now.index.0 _ c.as-slice.ensures.value c.in-None.ensures
+    by_row (vec_items c.args.chunk.now.other_chunks) c.as_slice.result.now c.args.k c.args.other.now.index.0 _ c.as_slice.ensures.value c.in-None.ensures

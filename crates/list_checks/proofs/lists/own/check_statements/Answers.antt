@@ -5,4 +5,4 @@ use Rattle.chunk_faults.proofs.Loops.{views_are}
 use Rattle.list_checks.proofs.lists.own.check_statements.Goals as goal
 
 pub returns : goal.returns
-returns c = c.check-rows.ensures ∙ views_are statement_of (statement_tests (chunk_of c.args.chunk.now)) _ _ c.as-slice.ensures.value
+returns c = c.check_rows.ensures ∙ views_are statement_of (statement_tests (chunk_of c.args.chunk.now)) _ _ c.as_slice.ensures.value

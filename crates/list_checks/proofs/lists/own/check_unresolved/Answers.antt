@@ -9,5 +9,5 @@ use Rattle.list_checks.proofs.lists.own.check_unresolved.Goals as goal
 pub returns : goal.returns
 returns c =
     let us = map unresolved_of (vec_items c.args.module.now.unresolved) in
-    c.check-rows.ensures ∙ views_are unresolved_of (unresolved_tests (module_of c.new.result.module.now)) _ _ c.as-slice.ensures.value
+    c.check_rows.ensures ∙ views_are unresolved_of (unresolved_tests (module_of c.new.result.module.now)) _ _ c.as_slice.ensures.value
     ∙ ap (λ m. first_found least (map (unresolved_tests (module_of m)) us)) c.new.ensures

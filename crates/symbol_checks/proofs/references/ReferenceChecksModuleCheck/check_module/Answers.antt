@@ -10,5 +10,5 @@ pub returns : goal.returns
 returns c =
     let t = chunk_of c.args.self.now.chunk.now in
     let rs = vec_items c.args.module.now.references in
-    c.check-rows.ensures ∙ entries_are (reference_tests t (module_of c.new.result.module.now)) _ _ c.as-slice.ensures.value
+    c.check_rows.ensures ∙ entries_are (reference_tests t (module_of c.new.result.module.now)) _ _ c.as_slice.ensures.value
     ∙ ap (λ m. first_found least (map (reference_tests t (module_of m)) rs)) c.new.ensures

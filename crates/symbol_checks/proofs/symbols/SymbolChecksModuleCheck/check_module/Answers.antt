@@ -10,5 +10,5 @@ pub returns : goal.returns
 returns c =
     let t = chunk_of c.args.self.now.chunk.now in
     let ys = map symbol_of (vec_items c.args.module.now.symbols) in
-    c.check-rows.ensures ∙ rows_are symbol_of (symbol_tests t (module_of c.new.result.module.now)) _ _ c.as-slice.ensures.value
+    c.check_rows.ensures ∙ rows_are symbol_of (symbol_tests t (module_of c.new.result.module.now)) _ _ c.as_slice.ensures.value
     ∙ ap (λ m. first_found least (each_row (symbol_tests t (module_of m)) ys)) c.new.ensures

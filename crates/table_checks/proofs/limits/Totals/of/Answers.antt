@@ -7,7 +7,7 @@ use Rattle.table_checks.proofs.limits.Totals.of.Goals as goal
 
 pub loop-module-preserved : goal.loop-module-preserved
 loop-module-preserved c =
-    let xs = c.as-slice-modules.result.now in
+    let xs = c.as_slice-modules.result.now in
     let i = c.loop-module.module-index in
     let x = c.module-item.result in
     let h = c.loop-module-test.true in
@@ -23,10 +23,10 @@ loop-module-preserved c =
 
 pub returns : goal.returns
 returns c =
-    let xs = c.as-slice-modules.result.now in
+    let xs = c.as_slice-modules.result.now in
     let i = c.loop-module.module-index in
     let l = c.loop-module-test.false in
-    let v = c.as-slice-modules.ensures.value in
+    let v = c.as_slice-modules.ensures.value in
     let scopes : model.Module → ℕ = λ M. length M.parents in
     let symbols : model.Module → ℕ = λ M. length M.symbols in
     let references : model.Module → ℕ = λ M. length M.references in
