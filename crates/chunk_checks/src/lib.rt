@@ -8,26 +8,16 @@ ghost use Rattle.chunk_faults.specs.Sound.{Sound};
 ghost use Rattle.chunk_faults.specs.Tests.{told};
 ghost use Rattle.chunk_faults.specs.Verdict.{table_rows, verdict};
 
+use chunk_faults::sizes::MemorySizes;
 use chunk_tables::chunk::Chunk;
-use limits::check_limits;
-use lists::check_lists;
-use modules::{check_format, check_modules};
+use list_checks::lists::check_lists;
 use names::refusal::Refusal;
-use references::check_references;
-use scopes::check_scopes;
-use sizes::MemorySizes;
 use std::alloc::Global;
-use symbols::check_symbols;
-
-pub mod limits;
-mod lists;
-mod modules;
-mod numbers;
-mod references;
-mod rows;
-mod scopes;
-pub mod sizes;
-mod symbols;
+use symbol_checks::references::check_references;
+use symbol_checks::symbols::check_symbols;
+use table_checks::limits::check_limits;
+use table_checks::modules::{check_format, check_modules};
+use table_checks::scopes::check_scopes;
 
 // The tables, one after another.
 fn check_tables(heap: Global, chunk: &Chunk, sizes: &MemorySizes) -> Result<(), Refusal>

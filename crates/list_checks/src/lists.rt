@@ -64,7 +64,7 @@ fn check_run_lists(chunk: &Chunk) -> Result<(), Refusal>
     check_others(chunk)
 }
 
-pub(crate) fn check_lists(heap: Global, chunk: &Chunk) -> Result<(), Refusal>
+pub fn check_lists(heap: Global, chunk: &Chunk) -> Result<(), Refusal>
     ensures { told result ≡ first_found least (list_rows (chunk_of chunk.now)) }
 {
     check_globals(chunk)?;

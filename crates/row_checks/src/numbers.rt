@@ -6,26 +6,26 @@ ghost use Rattle.chunk_faults.specs.Numbers.{is_module, is_scope, is_symbol, str
 use chunk_tables::chunk::{Chunk, Module};
 use keys::refs::SymbolRef;
 
-pub(crate) fn is_module(chunk: &Chunk, number: u32) -> bool
+pub fn is_module(chunk: &Chunk, number: u32) -> bool
     ensures { result ≡ is_module (chunk_of chunk.now) number }
 {
     (number as usize) < chunk.modules.len()
 }
 
-pub(crate) fn is_scope(module: &Module, number: u32) -> bool
+pub fn is_scope(module: &Module, number: u32) -> bool
     ensures { result ≡ is_scope (module_of «module».now) number }
 {
     (number as usize) < module.scopes.len()
 }
 
-pub(crate) fn is_symbol(module: &Module, number: u32) -> bool
+pub fn is_symbol(module: &Module, number: u32) -> bool
     ensures { result ≡ is_symbol (module_of «module».now) number }
 {
     (number as usize) < module.symbols.len()
 }
 
 // Whether a number that is given names no symbol of the module.
-pub(crate) fn strays(module: &Module, number: Option<u32>) -> bool
+pub fn strays(module: &Module, number: Option<u32>) -> bool
     ensures { result ≡ strays (module_of «module».now) number }
 {
     match number {
@@ -35,14 +35,14 @@ pub(crate) fn strays(module: &Module, number: Option<u32>) -> bool
 }
 
 // Whether the pair names no symbol of the chunk.
-pub(crate) fn is_missing(chunk: &Chunk, symbol: SymbolRef) -> bool
+pub fn is_missing(chunk: &Chunk, symbol: SymbolRef) -> bool
     ensures { result ≡ missing (chunk_of chunk.now) symbol }
 {
     chunk.symbol_at(symbol).is_none()
 }
 
 // Whether a pair that is given names no symbol of the chunk.
-pub(crate) fn dangles(chunk: &Chunk, symbol: Option<SymbolRef>) -> bool
+pub fn dangles(chunk: &Chunk, symbol: Option<SymbolRef>) -> bool
     ensures { result ≡ dangles (chunk_of chunk.now) symbol }
 {
     match symbol {

@@ -9,7 +9,7 @@ use chunk_tables::chunk::Module;
 use names::refusal::Refusal;
 
 // A check of a row by its tests.
-pub(crate) trait RowCheck<T> {
+pub trait RowCheck<T> {
     ghost tests: { Self → ℕ → T → List Test };
 
     // Refuses the row with the smallest number of a test that holds.
@@ -18,8 +18,8 @@ pub(crate) trait RowCheck<T> {
 }
 
 // Refuses the first row that is to be refused.
-pub(crate) fn check_rows<T, C: RowCheck<T>>(rows: &[T], by: &C) -> Result<(), Refusal>
-    ensures { told result ≡ first_found least (each_row (tests by.now) rows.now) }
+pub fn check_rows<T, C: RowCheck<T>>(rows: &[T], by: &C) -> Result<(), Refusal>
+    ensures { told result ≡ first_found least (each_row (C.tests by.now) rows.now) }
 {
     for i in 0..rows.len() {
         by.check(i, &rows[i])?;
@@ -28,7 +28,7 @@ pub(crate) fn check_rows<T, C: RowCheck<T>>(rows: &[T], by: &C) -> Result<(), Re
 }
 
 // A check of rows that a module has.
-pub(crate) trait ModuleCheck {
+pub trait ModuleCheck {
     ghost records: { Self → ModuleRow → List (List Test) };
 
     fn check_module(&self, module: &Module) -> Result<(), Refusal>
@@ -36,8 +36,8 @@ pub(crate) trait ModuleCheck {
 }
 
 // Refuses the first module that is to be refused.
-pub(crate) fn check_each_module<C: ModuleCheck>(modules: &[Module], by: &C) -> Result<(), Refusal>
-    ensures { told result ≡ first_found least (flat_map (records by.now) modules.now) }
+pub fn check_each_module<C: ModuleCheck>(modules: &[Module], by: &C) -> Result<(), Refusal>
+    ensures { told result ≡ first_found least (flat_map (C.records by.now) modules.now) }
 {
     for module in modules {
         by.check_module(module)?;

@@ -95,7 +95,7 @@ impl<'c> ModuleCheck for ReferenceChecks<'c> {
     }
 }
 
-pub(crate) fn check_references(heap: Global, chunk: &Chunk) -> Result<(), Refusal>
+pub fn check_references(heap: Global, chunk: &Chunk) -> Result<(), Refusal>
     ensures { told result ≡ first_found least (flat_map (reference_rows (chunk_of chunk.now)) (chunk_of chunk.now).modules) }
 {
     check_each_module(chunk.modules.as_slice(), &ReferenceChecks { heap, chunk })

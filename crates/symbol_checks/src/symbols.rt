@@ -136,7 +136,7 @@ impl<'c> ModuleCheck for SymbolChecks<'c> {
     }
 }
 
-pub(crate) fn check_symbols(heap: Global, chunk: &Chunk) -> Result<(), Refusal>
+pub fn check_symbols(heap: Global, chunk: &Chunk) -> Result<(), Refusal>
     ensures { told result ≡ first_found least (flat_map (symbol_rows (chunk_of chunk.now)) (chunk_of chunk.now).modules) }
 {
     check_each_module(chunk.modules.as_slice(), &SymbolChecks { heap, chunk })

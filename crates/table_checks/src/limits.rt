@@ -98,7 +98,7 @@ fn is_outside(chunk: &Chunk, sizes: &MemorySizes) -> bool
         || is_under_sizes(sizes, chunk.records, totals.symbols, modules, others)
 }
 
-pub(crate) fn check_limits(chunk: &Chunk, sizes: &MemorySizes) -> Result<(), Refusal>
+pub fn check_limits(chunk: &Chunk, sizes: &MemorySizes) -> Result<(), Refusal>
     ensures { told result ≡ least (limit_tests (chunk_of chunk.now) sizes.now) }
 {
     if is_outside(chunk, sizes) {

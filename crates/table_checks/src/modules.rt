@@ -12,7 +12,7 @@ use names::refusal::Refusal;
 use row_checks::numbers::{is_module, strays};
 use row_checks::rows::{RowCheck, check_rows};
 
-pub(crate) fn check_format(chunk: &Chunk) -> Result<(), Refusal>
+pub fn check_format(chunk: &Chunk) -> Result<(), Refusal>
     ensures { told result ≡ least (format_tests (chunk_of chunk.now)) }
 {
     if Format::from_code(chunk.format).is_none() {
@@ -76,7 +76,7 @@ fn check_no_module(chunk: &Chunk) -> Result<(), Refusal>
     Ok(())
 }
 
-pub(crate) fn check_modules(chunk: &Chunk) -> Result<(), Refusal>
+pub fn check_modules(chunk: &Chunk) -> Result<(), Refusal>
     ensures { told result ≡ first_found least (module_rows (chunk_of chunk.now) (chunk_of chunk.now).modules) }
 {
     let modules = chunk.modules.as_slice();

@@ -64,7 +64,7 @@ impl ModuleCheck for ScopeChecks {
     }
 }
 
-pub(crate) fn check_scopes(chunk: &Chunk) -> Result<(), Refusal>
+pub fn check_scopes(chunk: &Chunk) -> Result<(), Refusal>
     ensures { told result ≡ first_found least (flat_map scope_rows (chunk_of chunk.now).modules) }
 {
     check_each_module(chunk.modules.as_slice(), &ScopeChecks)

@@ -4,4 +4,4 @@ use Rattle.binding_index.specs.Indexes.{Indexes}
 use Rattle.binding_index.proofs.indexed.IndexedModule.new.Goals as goal
 
 pub invariant_of-result : goal.invariant_of-result
-invariant_of-result c = (∣ subst (λ ys. Indexes (map symbol_of ys) c.index_of-index.result) c.as_slice.ensures.value c.index_of-index.ensures ∣₁, tt)
+invariant_of-result c = record { indexed = ∣ subst (λ ys. Indexes (map symbol_of ys) c.index_of-index.result) c.as_slice.ensures.value c.index_of-index.ensures ∣₁ }
