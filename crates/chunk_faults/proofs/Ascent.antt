@@ -1,5 +1,5 @@
 -- The tests of every record stand by ascending numbers. Assumes nothing.
-use Rattle.std.proofs.Common.{ℕ, suc, List, [], ◌∷◌, ◌++◌, map, lit<}
+use Rattle.std.proofs.Common.{ℕ, suc, List, [], ◌∷◌, map, lit<}
 use Rattle.std.specs.List.{flat_map, AllByRecursion as All}
 use Rattle.std.proofs.ByRecursion.{All-append}
 use Rattle.chunk_tables.specs.Model.{Module, Chunk}

@@ -1,10 +1,9 @@
 -- What a test tells where it fails. Assumes nothing.
-use Rattle.std.proofs.Common.{◌≡◌, ℕ, zero, suc, ◌+◌, ◌<◌, ◌≤◌, Bool, true, false, cond, not, ◌&&◌, ◌||◌, eqb, ltb, ◌⊎◌, List, [], ◌∷◌, map, length, take, is_some as option_is_some, Some, None, Option, sym, refl, ap, ◌∙◌, subst, inl, inr, ⊎_elim, arith}
+use Rattle.std.proofs.Common.{◌≡◌, ℕ, zero, suc, ◌+◌, ◌<◌, Bool, true, false, not, ◌&&◌, eqb, ltb, List, [], ◌∷◌, map, length, take, is_some as option_is_some, Some, None, Option, sym, refl, ap, ◌∙◌, ⊎_elim, arith}
 use Rattle.std.specs.List.{flat_map, slice_get}
 use Rattle.std.specs.Option.{option_map}
-use Rattle.std.specs.Str.{bytes_eq}
 use Rattle.std.proofs.lemmas.Slice.Eq.{bytes_eq-Decides}
-use Rattle.std.proofs.lemmas.Bool.{both_ways, not-false, not-true, ltb-true, ltb-false, leb-true, eqb-true, eqb-false, eq-eqb, and_from, and_parts, and_cases, or_parts, or_cases, cases_Bool, cases_order}
+use Rattle.std.proofs.lemmas.Bool.{both_ways, not-false, ltb-true, leb-true, eqb-true, eq-eqb, and_from, and_parts, or_parts, or_cases, cases_order}
 use Rattle.keys.specs.declared.refs.SymbolRef.{SymbolRef}
 use Rattle.names.specs.Any.{any}
 use Rattle.names.specs.Bases.{is_base}

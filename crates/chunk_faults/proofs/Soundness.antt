@@ -1,7 +1,7 @@
 -- What the tables have where nothing is refused. Assumes nothing.
-use Rattle.std.proofs.Common.{◌≡◌, ℕ, zero, suc, ◌+◌, ◌<◌, ◌≤◌, Bool, true, false, cond, not, ◌&&◌, ◌||◌, eqb, ltb, leb, List, [], ◌∷◌, map, length, take, is_some as option_is_some, Some, None, Option, sym, refl, ap, ◌∙◌, ⊎_elim, arith}
+use Rattle.std.proofs.Common.{◌≡◌, ℕ, suc, ◌+◌, ◌<◌, Bool, true, false, cond, not, ◌&&◌, ◌||◌, eqb, ltb, leb, List, [], ◌∷◌, map, length, take, is_some as option_is_some, Some, None, Option, sym, refl, ap, ◌∙◌, ⊎_elim, arith}
 use Rattle.std.specs.List.{slice_get}
-use Rattle.std.proofs.lemmas.Bool.{both_ways, not-false, not-true, not_from_false, ltb-false, leb-false, eqb-true, eqb-false, eq-eqb, and_from, and_parts, and_cases, or_parts, cases_Bool, cases_order, cases_eq}
+use Rattle.std.proofs.lemmas.Bool.{both_ways, not-false, not_from_false, ltb-false, leb-false, eqb-true, eqb-false, eq-eqb, or_parts, cases_Bool, cases_order}
 use Rattle.keys.specs.declared.refs.SymbolRef.{SymbolRef}
 use Rattle.names.specs.Any.{any}
 use Rattle.chunk_tables.specs.declared.parts.Reference.{Reference}
@@ -9,22 +9,22 @@ use Rattle.chunk_tables.specs.Bindings.{nearest, root_import}
 use Rattle.chunk_tables.specs.Formats.{of_code}
 use Rattle.chunk_tables.specs.Kinds.{is_normal}
 use Rattle.chunk_tables.specs.Lists.{maybe, first_found}
-use Rattle.chunk_tables.specs.Links.{symbol_at, link_of, alias_of, canonical, end_after}
+use Rattle.chunk_tables.specs.Links.{link_of, alias_of, canonical, end_after}
 use Rattle.chunk_tables.specs.Model.{Symbol, Unresolved, Module, OtherChunk, Chunk}
 use Rattle.chunk_tables.proofs.Chains.{canonical_linked, canonical_unlinked}
 use Rattle.chunk_faults.specs.Limits.{scope_count, symbol_count, reference_count, too_large, too_small, limit_tests}
-use Rattle.chunk_faults.specs.ListRows.{name_tests, module_entry, own_entry, symbol_entry, entry_tests, falls, member_amiss, member_tests, unresolved_tests, statement_tests, not_above, hint_too_long, other_tests, own_lists, own_list_rows, run_lists, all_lists}
+use Rattle.chunk_faults.specs.ListRows.{name_tests, module_entry, own_entry, symbol_entry, entry_tests, falls, member_tests, unresolved_tests, statement_tests, other_tests, own_lists, own_list_rows, run_lists, all_lists}
 use Rattle.chunk_faults.specs.ModuleRows.{format_tests, namespace_of, runtime_strays, own_stray, no_module_tests, module_tests, module_rows}
-use Rattle.chunk_faults.specs.Numbers.{is_module, is_scope, is_symbol, strays, missing, dangles}
-use Rattle.chunk_faults.specs.ReferenceRows.{reference_strays, misses_target, stray_member, bad_reference, reference_tests}
-use Rattle.chunk_faults.specs.ScopeRows.{parent_strays, parent_not_smaller, scope_misplaced, scope_tests}
-use Rattle.chunk_faults.specs.Sound.{There, SoundOwn, SoundScope, SoundSymbol, SoundReference, SoundUnresolved, SoundModule, SoundLimits, SoundMembers, SoundOther, SoundLists, Sound}
-use Rattle.chunk_faults.specs.SymbolRows.{symbol_strays, clashes, misplaced, endless, circles, doubly_aliased, elsewhere, stray_import, symbol_tests}
+use Rattle.chunk_faults.specs.Numbers.{is_module, missing}
+use Rattle.chunk_faults.specs.ReferenceRows.{misses_target, stray_member, reference_tests}
+use Rattle.chunk_faults.specs.ScopeRows.{scope_tests}
+use Rattle.chunk_faults.specs.Sound.{There, SoundOwn, SoundScope, SoundSymbol, SoundReference, SoundUnresolved, SoundModule, SoundLimits, SoundMembers, SoundLists, Sound}
+use Rattle.chunk_faults.specs.SymbolRows.{clashes, misplaced, endless, circles, doubly_aliased, elsewhere, stray_import, symbol_tests}
 use Rattle.chunk_faults.specs.Tests.{Test, least}
 use Rattle.chunk_faults.specs.Verdict.{scope_rows, symbol_rows, reference_rows, table_rows, verdict}
 use Rattle.chunk_faults.specs.declared.sizes.MemorySizes.{MemorySizes}
 use Rattle.chunk_faults.proofs.Facts.{fails, row_passes, entry_passes, part_passes, is_some, is_none, at_some, below, there, leads, own_number, fit, any_nth, nth_take, nth_within, root_import_lem, bindings_apart}
-use Rattle.chunk_faults.proofs.Firsts.{none_some, some_same, found_none}
+use Rattle.chunk_faults.proofs.Firsts.{none_some, found_none}
 
 -- a test under a condition
 under : (a b : Bool) → (a && b) ≡ false → a ≡ true → b ≡ false

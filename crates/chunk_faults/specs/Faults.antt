@@ -1,5 +1,5 @@
 -- Faults in the order (table, record, number). Assumes nothing.
-use Rattle.std.specs.Prelude.{◌≡◌, ℕ, ◌<◌, ◌≤◌, true, ◌⊎◌, List, [], ◌∷◌, Some, None, Option}
+use Rattle.std.specs.Prelude.{◌≡◌, ℕ, ◌<◌, ◌≤◌, true, ◌⊎◌, List, Some, None, Option}
 use Rattle.std.specs.List.{slice_get}
 use Rattle.chunk_faults.specs.Tests.{Test}
 

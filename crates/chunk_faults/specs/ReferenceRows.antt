@@ -1,5 +1,5 @@
 -- The tests of a reference. Assumes nothing.
-use Rattle.std.specs.Prelude.{ℕ, Bool, false, not, ◌&&◌, ◌||◌, List, [], ◌∷◌, is_some, nat_eq}
+use Rattle.std.specs.Prelude.{Bool, false, not, ◌&&◌, ◌||◌, List, [], ◌∷◌, is_some, nat_eq}
 use Rattle.std.specs.List.{slice_get}
 use Rattle.chunk_tables.specs.declared.parts.Reference.{Reference}
 use Rattle.chunk_tables.specs.Bindings.{nearest, root_import}

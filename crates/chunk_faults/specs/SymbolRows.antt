@@ -1,5 +1,5 @@
 -- The tests of a symbol. Assumes nothing.
-use Rattle.std.specs.Prelude.{ℕ, Bool, false, cond, not, ◌&&◌, ◌||◌, List, [], ◌∷◌, take, is_some, Option, ◌==◌}
+use Rattle.std.specs.Prelude.{ℕ, Bool, false, cond, not, ◌&&◌, ◌||◌, List, [], ◌∷◌, take, is_some, ◌==◌}
 use Rattle.keys.specs.declared.refs.SymbolRef.{SymbolRef}
 use Rattle.names.specs.Any.{any}
 use Rattle.names.specs.Bases.{is_base}

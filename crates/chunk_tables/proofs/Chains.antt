@@ -1,5 +1,5 @@
 -- Chains of links. Assumes nothing.
-use Rattle.std.proofs.Common.{◌≡◌, ℕ, zero, suc, ◌+◌, ◌-◌, ◌<◌, ◌≤◌, Some, None, sym, refl, ap, ◌∙◌, arith}
+use Rattle.std.proofs.Common.{◌≡◌, ℕ, zero, suc, ◌+◌, ◌-◌, ◌<◌, ◌≤◌, Some, None, refl, ap, ◌∙◌, arith}
 use Rattle.keys.specs.declared.refs.SymbolRef.{SymbolRef}
 use Rattle.chunk_tables.specs.Lists.{maybe}
 use Rattle.chunk_tables.specs.Links.{link_of, follow, canonical, end_after}

@@ -3,7 +3,7 @@ use Rattle.std.proofs.Common.{◌≡◌, ℕ, suc, ◌+◌, ◌<◌, ◌≤◌, 
 use Rattle.std.proofs.lemmas.List.{at_drop_more, at_drop_all}
 use Rattle.std.proofs.lemmas.Bool.{cond-true, cond-false, both_ways}
 use Rattle.names.specs.Any.{any}
-use Rattle.chunk_tables.specs.Lists.{maybe, place_from, place, first_found}
+use Rattle.chunk_tables.specs.Lists.{maybe, place_from, first_found}
 
 -- the loop reads the row x whole
 module _ {X : Type 0} (p : X → Bool) (xs : List X) (i : ℕ) (x : X) (h : i < length xs) (is : x ≡ get_or xs i x) where

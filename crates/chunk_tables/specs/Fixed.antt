@@ -1,5 +1,5 @@
 -- Names that are printed without being chosen. Assumes nothing.
-use Rattle.std.specs.Prelude.{ℕ, Bool, cond, ◌||◌, List, [], ◌∷◌, ◌++◌, is_some, codes}
+use Rattle.std.specs.Prelude.{cond, ◌||◌, List, [], ◌∷◌, ◌++◌, is_some, codes}
 use Rattle.chunk_tables.specs.declared.format.Format.{Format}
 use Rattle.chunk_tables.specs.declared.format.Format.TheVariants.{Esm, Cjs, Iife, Umd}
 use Rattle.chunk_tables.specs.Model.{Name, Module}

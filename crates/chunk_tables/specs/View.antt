@@ -1,6 +1,5 @@
 -- The tables that the code's structs hold. Assumes nothing.
-use Rattle.std.specs.Prelude.{ℕ, List, map, vec_items}
-use Rattle.std.specs.declared.alloc.Global.{Global}
+use Rattle.std.specs.Prelude.{ℕ, map, vec_items}
 use Rattle.chunk_tables.specs.Model.{Symbol, Unresolved, Statement, Module, OtherChunk, Chunk}
 use Rattle.chunk_tables.specs.declared.parts.Scope as scope
 use Rattle.chunk_tables.specs.declared.parts.Symbol as symbol

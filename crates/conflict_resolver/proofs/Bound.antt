@@ -1,10 +1,10 @@
 -- How many probes a search takes, by a potential that each probe lowers:
 -- each recorded form holds 1 and the count of the recorded or vetoed numbers above its counter. Assumes nothing.
-use Rattle.std.proofs.Common.{◌≡◌, ℕ, zero, suc, ◌+◌, ◌-◌, ◌*◌, ◌^◌, ◌<◌, ◌≤◌, Bool, true, false, cond, not, ◌&&◌, ◌||◌, ltb, ◌⊎◌, List, length, is_some, Some, None, Option, sym, refl, ap, ◌∙◌, inl, inr, mul-le-mul_right, arith}
-use Rattle.std.proofs.lemmas.Bool.{cases_Bool, or_parts, or_left, or_right}
+use Rattle.std.proofs.Common.{◌≡◌, ℕ, zero, suc, ◌+◌, ◌-◌, ◌*◌, ◌<◌, ◌≤◌, Bool, true, false, cond, not, ◌&&◌, ◌||◌, ltb, ◌⊎◌, List, length, is_some, Some, None, Option, sym, refl, ap, ◌∙◌, inl, inr, mul-le-mul_right, arith}
+use Rattle.std.proofs.lemmas.Bool.{cases_Bool, or_parts}
 use Rattle.names.specs.Forms.{form}
-use Rattle.conflict_resolver.specs.Records.{Record, counter_of, raised, recording}
-use Rattle.conflict_resolver.specs.Rules.{Outcome, granted, refused, State, next, done, probed, opening, run, is_base, searched}
+use Rattle.conflict_resolver.specs.Records.{Record, counter_of, raised}
+use Rattle.conflict_resolver.specs.Rules.{Outcome, granted, refused, State, next, done, opening, run, is_base, searched}
 use Rattle.conflict_resolver.specs.Laws.{count, is_recorded, is_vetoed, most_probes, Bounded}
 use Rattle.names.proofs.Apart.{form_number}
 use Rattle.conflict_resolver.proofs.Counting.{total, count_more, count_mono, count_split, total_le, total_falls, total_has}

@@ -1,9 +1,8 @@
 -- The five ways that a look at a candidate can go, one for each rule, as a relation. Assumes nothing.
-use Rattle.std.proofs.Common.{◌≡◌, ℕ, ◌+◌, ◌<◌, ◌≤◌, Bool, true, false, ltb, ◌⊎◌, List, Some, None, Option, sym, refl, inl, inr, arith}
+use Rattle.std.proofs.Common.{◌≡◌, ℕ, ◌+◌, ◌<◌, ◌≤◌, Bool, true, false, ltb, ◌⊎◌, List, Some, None, Option, refl, inl, inr}
 use Rattle.std.proofs.lemmas.Bool.{cases_lt, lt-ltb, le-ltb}
-use Rattle.names.specs.Forms.{form}
 use Rattle.conflict_resolver.specs.Records.{Record, counter_of, raised, recording}
-use Rattle.conflict_resolver.specs.Rules.{Outcome, granted, refused, State, next, done, sight, onward, follow, probed, run}
+use Rattle.conflict_resolver.specs.Rules.{granted, refused, State, next, done, sight, onward, follow}
 
 pub data Look (vetoes : List ℕ → Bool → Bool) (es : List Record) (c : List ℕ) (bare : Bool) (k p : ℕ) : State → Type 0 where
   raises : (n : ℕ) → counter_of es c ≡ Some n → n < 9999 → Look vetoes es c bare k p (next (raised es c) (n + 1) p)

@@ -1,8 +1,8 @@
 -- The ends of a reservation. Assumes nothing.
-use Rattle.std.proofs.Common.{◌≡◌, ℕ, ◌<◌, ◌≤◌, Bool, true, false, ltb, List, length, is_some, Some, None, Option, sym, refl, ap, ◌∙◌, arith}
+use Rattle.std.proofs.Common.{◌≡◌, ℕ, ◌<◌, ◌≤◌, true, false, ltb, List, length, is_some, Some, None, Option, refl, arith}
 use Rattle.std.proofs.lemmas.Bool.{lt-ltb, le-ltb}
 use Rattle.conflict_resolver.specs.Records.{Record, counter_of, recording}
-use Rattle.conflict_resolver.specs.Rules.{Reservation, made, declined, is_base, reserved}
+use Rattle.conflict_resolver.specs.Rules.{made, declined, is_base, reserved}
 
 pub none_from : {X : Type 0} (o : Option X) → is_some o ≡ false → o ≡ None
 none_from (Some x) e = let z : ◌≡◌ {A = ℕ} 0 1 = cc in absurd (omega arith)

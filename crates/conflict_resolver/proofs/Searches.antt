@@ -1,9 +1,9 @@
 -- The steps of a search, as a loop takes them. Assumes nothing.
-use Rattle.std.proofs.Common.{◌≡◌, ℕ, zero, suc, ◌+◌, ◌-◌, ◌<◌, ◌≤◌, Bool, true, false, ltb, List, length, sym, refl, ap, ◌∙◌, arith}
+use Rattle.std.proofs.Common.{◌≡◌, ℕ, suc, ◌+◌, ◌-◌, ◌<◌, ◌≤◌, Bool, true, false, List, length, sym, ap, ◌∙◌, arith}
 use Rattle.std.proofs.lemmas.Bool.{lt-ltb, le-ltb}
 use Rattle.names.specs.Forms.{form}
 use Rattle.conflict_resolver.specs.Records.{Record, counter_of}
-use Rattle.conflict_resolver.specs.Rules.{Outcome, granted, refused, State, next, done, follow, sight, probed, opening, run, is_base, searched}
+use Rattle.conflict_resolver.specs.Rules.{Outcome, refused, State, next, done, follow, sight, probed, opening, run, is_base, searched}
 use Rattle.conflict_resolver.specs.Laws.{Sound, Bounded}
 use Rattle.conflict_resolver.proofs.Grant.{sound}
 use Rattle.conflict_resolver.proofs.Bound.{run_done, bounded}

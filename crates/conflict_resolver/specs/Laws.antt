@@ -1,6 +1,6 @@
 -- What holds of every search: what a granted name is, what is left on record, and how many probes it may take.
 -- Assumes nothing.
-use Rattle.std.specs.Prelude.{◌≡◌, ℕ, zero, suc, ◌+◌, ◌*◌, ◌<◌, ◌≤◌, Bool, true, false, cond, not, ◌&&◌, ◌⊎◌, List, is_some, Some, None, Option, ◌==◌, ◌≢◌}
+use Rattle.std.specs.Prelude.{◌≡◌, ℕ, zero, suc, ◌+◌, ◌*◌, ◌<◌, ◌≤◌, Bool, false, cond, not, ◌&&◌, ◌⊎◌, List, is_some, Some, None, Option, ◌==◌, ◌≢◌}
 use Rattle.names.specs.Forms.{form, Suffix}
 use Rattle.conflict_resolver.specs.Records.{Record, counter_of, Apart}
 use Rattle.conflict_resolver.specs.Rules.{Outcome, granted, refused}

@@ -1,5 +1,5 @@
 -- Entries compared by their keys are in a total order. Assumes nothing.
-use Rattle.std.proofs.Common.{◌≡◌, ℕ, ◌+◌, Bool, true, false, cond, List, length, get_or, Ordering, Less, Equal, Greater, Decides, sym, refl, ap, ◌∙◌, ⊎_elim, arith}
+use Rattle.std.proofs.Common.{◌≡◌, ◌+◌, Bool, true, false, cond, List, length, get_or, Ordering, Less, Equal, Greater, Decides, sym, refl, ap, ◌∙◌, ⊎_elim, arith}
 use Rattle.std.specs.Cmp.{IsTotalOrder, IsEquivalence, Equal-is, on_equiv, decided}
 use Rattle.std.specs.Ordering.{is_lt, is_eq, ordering_reverse, eq_by_cmp}
 use Rattle.std.specs.Bool.{one_answer}

@@ -1,4 +1,4 @@
-use Rattle.std.proofs.Common.{sym, refl, ◌∙◌, arith}
+use Rattle.std.proofs.Common.{sym, ◌∙◌, arith}
 use Rattle.std.proofs.lemmas.List.{drop_all}
 use Rattle.line_text.proofs.Cuts.{front_hit, front_miss, front_all, back_hit, back_miss, back_all, first_part, last_part}
 use Rattle.line_text.proofs.cut.cut.Goals as goal

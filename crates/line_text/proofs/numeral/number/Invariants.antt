@@ -1,5 +1,5 @@
 use Rattle.std.proofs.Common.{◌≡◌, drop}
-use Rattle.line_text.specs.Numerals.{numeral, read_on}
+use Rattle.line_text.specs.Numerals.{read_on}
 use Rattle.line_text.proofs.numeral.number.Given as goal
 
 abbrev pub invariant-loop-byte : goal.invariant-loop-byte

@@ -1,4 +1,4 @@
-use Rattle.std.proofs.Common.{◌≡◌, vec_items, sym, ap, ◌∙◌}
+use Rattle.std.proofs.Common.{vec_items, sym, ap, ◌∙◌}
 use Rattle.chunk_tables.specs.Bindings.{binds_in}
 use Rattle.chunk_tables.specs.Lists.{place_from}
 use Rattle.chunk_tables.specs.View.{symbol_of}

@@ -1,4 +1,4 @@
-use Rattle.std.proofs.Common.{◌≡◌, vec_items, sym, ap, ◌∙◌}
+use Rattle.std.proofs.Common.{vec_items, sym, ap, ◌∙◌}
 use Rattle.names.specs.Any.{any}
 use Rattle.names.proofs.Any.{any_hit, any_miss, any_none}
 use Rattle.chunk_tables.specs.Bindings.{binds}

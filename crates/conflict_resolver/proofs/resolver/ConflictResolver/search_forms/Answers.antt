@@ -1,4 +1,4 @@
-use Rattle.std.proofs.Common.{◌+◌, refl, ◌∙◌, arith}
+use Rattle.std.proofs.Common.{◌+◌, ◌∙◌, arith}
 use Rattle.names.specs.Spelt.{spelt}
 use Rattle.conflict_resolver.specs.Held.{held}
 use Rattle.conflict_resolver.specs.Rules.{granted, refused, next, done}
