@@ -2,12 +2,12 @@
 use Rattle.std.proofs.Common.{◌≡◌, ℕ, cond, List, is_ok, IfOk, Some, None, Ok, Err, Option, Result, unwrap_or, sym, refl, ap, ◌∙◌, subst, ⊎_elim}
 use Rattle.std.proofs.lemmas.Bool.{cases_Bool, both_ways}
 use Rattle.names.specs.declared.refusal.Refusal.{Refusal}
-use Rattle.keys.specs.Bindings.{binding_alike, binding_hash}
+use Rattle.keys.specs.Bindings.{binding_alike}
 use Rattle.keys.specs.declared.binding_key.Binding.{Binding}
 use Rattle.keys.specs.Scoped.{binding_decides}
 use Rattle.keyed_table.specs.Laws.{Laws}
 use Rattle.keyed_table.specs.Model.{put}
-use Rattle.keyed_table.specs.declared.slot.Stored.{Stored}
+use Rattle.keyed_table.specs.declared.slot.Entry.{Entry}
 use Rattle.chunk_tables.specs.Lists.{maybe}
 use Rattle.binding_index.specs.Indexes.{under, Noted}
 
@@ -20,10 +20,10 @@ some_value : (o : Option ℕ) (i : ℕ) → Some (unwrap_or o i) ≡ maybe o (So
 some_value None i = refl
 some_value (Some j) i = refl
 
-module _ (ss : List (Stored Binding ℕ)) (k : Binding) (i : ℕ) (laws : Laws Binding ℕ binding_alike binding_hash) where
-  -- what was stored, after the first number was put under the key
-  abbrev after : ℕ → List (Stored Binding ℕ)
-  after v = put binding_alike binding_hash ss k v
+module _ (ss : List (Entry Binding ℕ)) (k : Binding) (i : ℕ) (laws : Laws Binding ℕ binding_alike) where
+  -- the entries after the first number was put under the key
+  abbrev after : ℕ → List (Entry Binding ℕ)
+  after v = put binding_alike ss k v
 
   module _ (o : Option ℕ) (found : o ≡ under ss k) (v : ℕ) (first : v ≡ unwrap_or o i) where
     own : under (after v) k ≡ maybe (under ss k) (cond (binding_alike k k) (Some i) None) Some
@@ -40,6 +40,6 @@ module _ (ss : List (Stored Binding ℕ)) (k : Binding) (i : ℕ) (laws : Laws B
         ∙ sym (ap (λ b. maybe (under ss q) (cond b (Some i) None) Some) f ∙ or_none (under ss q)))
         (cases_Bool (binding_alike k q))
 
-    pub noted_put : (r : Result (Unit {0}) Refusal) (ts : List (Stored Binding ℕ)) → ts ≡ cond (is_ok r) (after v) ss → IfOk r (λ _. Noted ss k i ts)
+    pub noted_put : (r : Result (Unit {0}) Refusal) (ts : List (Entry Binding ℕ)) → ts ≡ cond (is_ok r) (after v) ss → IfOk r (λ _. Noted ss k i ts)
     noted_put (Ok u) ts h = subst (Noted ss k i) (sym h) noted
     noted_put (Err x) ts h = tt

@@ -1,7 +1,6 @@
 // How an index is made.
 ghost use Rattle.std.specs.Prelude.{◌≡◌, [], map, OnOk};
 ghost use Rattle.chunk_tables.specs.View.{symbol_of};
-ghost use Rattle.keyed_table.specs.View.{stored};
 ghost use Rattle.binding_index.specs.Indexes.{KeyOf, Noted, Finds, Indexes};
 
 use chunk_tables::parts::Symbol;
@@ -20,18 +19,17 @@ fn key_of(symbol: &Symbol) -> Option<Binding>
     if !symbol.bound {
         return None;
     }
-    match Name::new(symbol.name.as_slice()) {
-        Ok(name) => Some(Binding {
-            scope: symbol.scope,
-            name,
-        }),
-        Err(_) => None,
-    }
+    let name = Name::new(symbol.name.as_slice()).ok()?;
+    Some(Binding {
+        scope: symbol.scope,
+        name,
+    })
 }
 
 // Puts a number under a key. A number that is there already stays.
+#[tactic(auto, using(crate::proofs::Notes::noted_put))]
 fn note(table: &mut Table<Binding, usize>, key: Binding, number: usize) -> Result<(), Refusal>
-    ensures { OnOk result (Noted (stored table.old) key number (stored table.new)) }
+    ensures { OnOk result (Noted table.old.entries key number table.new.entries) }
 {
     laws::<Binding, usize>();
     let first = table.find(&key).unwrap_or(number);
@@ -40,7 +38,7 @@ fn note(table: &mut Table<Binding, usize>, key: Binding, number: usize) -> Resul
 
 // Notes the number of each symbol, from the first on.
 fn fill(table: &mut Table<Binding, usize>, symbols: &[Symbol]) -> Result<(), Refusal>
-    requires { stored table.old ≡ [] }
+    requires { table.old.entries ≡ [] }
     ensures { OnOk result (Finds (map symbol_of symbols.now) table.new) }
 {
     for (i, symbol) in symbols.iter().enumerate() {

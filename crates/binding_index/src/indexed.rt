@@ -9,7 +9,7 @@ use keys::binding_key::Binding;
 pub mod lookups;
 
 // The index has the number of the first symbol that each scope binds under each name that makes a key. A module for
-// which there was no memory has none.
+// which there was no memory has none, so a map of `std` would not spare the walk either.
 #[derive(Drop)]
 pub struct IndexedModule<'a> {
     pub module: &'a Module,

@@ -33,7 +33,7 @@ fn check_tables(heap: Global, chunk: &Chunk, sizes: &MemorySizes) -> Result<(), 
 }
 
 // Refuses the chunk with the number of its least fault. The heap is for indexes that are let go again; without memory
-// for them the check only takes longer.
+// for them the check only takes longer. It is passed beside the chunk, since only what makes indexes takes from it.
 pub fn check_chunk(heap: Global, chunk: &Chunk, sizes: &MemorySizes) -> Result<(), Refusal>
     ensures follows_the_rules { told result ≡ verdict (chunk_of chunk.now) sizes.now }
     ensures refuses_the_least_fault { Judged (table_rows (chunk_of chunk.now) sizes.now) (told result) }

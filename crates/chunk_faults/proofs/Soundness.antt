@@ -1,9 +1,8 @@
 -- What the tables have where nothing is refused. Assumes nothing.
 use Rattle.std.proofs.Common.{◌≡◌, ℕ, suc, ◌+◌, ◌<◌, Bool, true, false, cond, not, ◌&&◌, ◌||◌, eqb, ltb, leb, List, [], ◌∷◌, map, length, take, is_some as option_is_some, Some, None, Option, sym, refl, ap, ◌∙◌, ⊎_elim, arith}
-use Rattle.std.specs.List.{slice_get}
+use Rattle.std.specs.List.{list_any, slice_get}
 use Rattle.std.proofs.lemmas.Bool.{both_ways, not-false, not_from_false, ltb-false, leb-false, eqb-true, eqb-false, eq-eqb, or_parts, cases_Bool, cases_order}
 use Rattle.keys.specs.declared.refs.SymbolRef.{SymbolRef}
-use Rattle.names.specs.Any.{any}
 use Rattle.chunk_tables.specs.declared.parts.Reference.{Reference}
 use Rattle.chunk_tables.specs.Bindings.{nearest, root_import}
 use Rattle.chunk_tables.specs.Formats.{of_code}
@@ -147,13 +146,13 @@ module _ (c : Chunk) (e : (k m : ℕ) → slice_get c.members k ≡ Some m → l
   member_at k m h = nth_within c.modules m (below m (length c.modules) (fails (member_tests c k m) (e k m h)).0)
 
   module _ (k m : ℕ) (h : slice_get c.members k ≡ Some m) (M : Module) (eM : slice_get c.modules m ≡ Some M) where
-    not_amiss : (not (is_normal M.kind) ≡ false) × ((any (eqb m) (take k c.members) || falls c k M) ≡ false)
+    not_amiss : (not (is_normal M.kind) ≡ false) × ((list_any (eqb m) (take k c.members) || falls c k M) ≡ false)
     not_amiss =
-        or_parts (not (is_normal M.kind)) (any (eqb m) (take k c.members) || falls c k M)
-        (at_some (slice_get c.modules m) (λ N. not (is_normal N.kind) || (any (eqb m) (take k c.members) || falls c k N)) M eM (fails (member_tests c k m) (e k m h)).1.0)
+        or_parts (not (is_normal M.kind)) (list_any (eqb m) (take k c.members) || falls c k M)
+        (at_some (slice_get c.modules m) (λ N. not (is_normal N.kind) || (list_any (eqb m) (take k c.members) || falls c k N)) M eM (fails (member_tests c k m) (e k m h)).1.0)
 
-    new_and_rising : (any (eqb m) (take k c.members) ≡ false) × (falls c k M ≡ false)
-    new_and_rising = or_parts (any (eqb m) (take k c.members)) (falls c k M) not_amiss.1
+    new_and_rising : (list_any (eqb m) (take k c.members) ≡ false) × (falls c k M ≡ false)
+    new_and_rising = or_parts (list_any (eqb m) (take k c.members)) (falls c k M) not_amiss.1
 
   repeated : (j k m : ℕ) → j < k → slice_get c.members j ≡ Some m → slice_get c.members k ≡ Some m → ⊥
   repeated j k m l hj hk =

@@ -1,8 +1,7 @@
 -- The tests of the entries of lists. Assumes nothing.
 use Rattle.std.specs.Prelude.{ℕ, ◌+◌, Bool, false, not, ◌||◌, ltb, List, [], ◌∷◌, map, length, take, is_some, nat_eq, nat_lt}
-use Rattle.std.specs.List.{flat_map, slice_get}
+use Rattle.std.specs.List.{list_any, flat_map, slice_get}
 use Rattle.keys.specs.declared.refs.SymbolRef.{SymbolRef}
-use Rattle.names.specs.Any.{any}
 use Rattle.names.specs.Bases.{is_base}
 use Rattle.chunk_tables.specs.declared.chunk.EntrySymbol.{EntrySymbol}
 use Rattle.chunk_tables.specs.Bindings.{nearest}
@@ -38,7 +37,7 @@ falls c k M = maybe (row_before c.members k) false (λ p. maybe (slice_get c.mod
 -- the module of entry k is external, stands earlier in the list, or runs before the one that stands before it
 abbrev pub member_amiss : Chunk → ℕ → ℕ → Bool
 member_amiss c k m =
-    maybe (slice_get c.modules m) false (λ M. not (is_normal M.kind) || (any (nat_eq m) (take k c.members) || falls c k M))
+    maybe (slice_get c.modules m) false (λ M. not (is_normal M.kind) || (list_any (nat_eq m) (take k c.members) || falls c k M))
 
 abbrev pub member_tests : Chunk → ℕ → ℕ → List Test
 member_tests c k m = (2, not (is_module c m)) ∷ (3, member_amiss c k m) ∷ []
@@ -49,7 +48,7 @@ unresolved_tests M u =
 
 -- a statement is one record, with all that it declares
 abbrev pub statement_tests : Chunk → Statement → List Test
-statement_tests c s = (2, any (missing c) s.declared) ∷ []
+statement_tests c s = (2, list_any (missing c) s.declared) ∷ []
 
 -- the number of the other chunk is not above the one before it
 abbrev pub not_above : Chunk → ℕ → OtherChunk → Bool
@@ -61,7 +60,7 @@ hint_too_long o = nat_lt 100 (8 + length o.name)
 
 -- another chunk is one record, with all that is imported from it
 abbrev pub other_tests : Chunk → ℕ → OtherChunk → List Test
-other_tests c k o = (2, any (missing c) o.imports) ∷ (3, not_above c k o) ∷ (7, hint_too_long o) ∷ []
+other_tests c k o = (2, list_any (missing c) o.imports) ∷ (3, not_above c k o) ∷ (7, hint_too_long o) ∷ []
 
 -- the lists of a module
 abbrev pub own_lists : Chunk → Module → List (List (List Test))

@@ -1,7 +1,7 @@
 -- The tests of a symbol. Assumes nothing.
 use Rattle.std.specs.Prelude.{ℕ, Bool, false, cond, not, ◌&&◌, ◌||◌, List, [], ◌∷◌, take, is_some, ◌==◌}
 use Rattle.keys.specs.declared.refs.SymbolRef.{SymbolRef}
-use Rattle.names.specs.Any.{any}
+use Rattle.std.specs.List.{list_any}
 use Rattle.names.specs.Bases.{is_base}
 use Rattle.chunk_tables.specs.Bindings.{binds_in, root_import}
 use Rattle.chunk_tables.specs.Kinds.{is_normal}
@@ -17,7 +17,7 @@ symbol_strays c M y = not (is_scope M y.scope) || (dangles c y.link || dangles c
 
 -- an earlier symbol is a binding of the same name in the same scope
 abbrev pub clashes : Module → ℕ → Symbol → Bool
-clashes M i y = y.bound && any (binds_in y.scope y.name) (take i M.symbols)
+clashes M i y = y.bound && list_any (binds_in y.scope y.name) (take i M.symbols)
 
 -- a binding of an external module, or a facade outside a root
 abbrev pub misplaced : Module → Symbol → Bool

@@ -1,5 +1,5 @@
 -- Chains of links. Assumes nothing.
-use Rattle.std.proofs.Common.{◌≡◌, ℕ, zero, suc, ◌+◌, ◌-◌, ◌<◌, ◌≤◌, Some, None, refl, ap, ◌∙◌, arith}
+use Rattle.std.proofs.Common.{◌≡◌, ℕ, zero, suc, ◌+◌, ◌-◌, ◌<◌, Some, None, refl, ap, ◌∙◌, arith}
 use Rattle.keys.specs.declared.refs.SymbolRef.{SymbolRef}
 use Rattle.chunk_tables.specs.Lists.{maybe}
 use Rattle.chunk_tables.specs.Links.{link_of, follow, canonical, end_after}
@@ -19,9 +19,6 @@ module _ (c : Chunk) where
   follow_on n i q l e h =
       let m : n - i ≡ suc (n - (i + 1)) = omega arith in
       ap (λ k. follow c k q) m ∙ follow_suc (n - (i + 1)) q l e
-
-  pub follow_none : (n i : ℕ) (q : SymbolRef) → n ≤ i → follow c (n - i) q ≡ q
-  follow_none n i q h = let m : n - i ≡ 0 = omega arith in ap (λ k. follow c k q) m
 
   -- the canonical symbol of one that is linked, and of one that is not
   pub canonical_linked : (q l : SymbolRef) → link_of c q ≡ Some l → canonical c q ≡ end_after c l

@@ -1,4 +1,4 @@
-pub mod RowViews
 pub mod Chains
 pub mod Walks
 pub mod Finds
+pub mod Mapped

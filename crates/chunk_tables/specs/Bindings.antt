@@ -1,8 +1,7 @@
 -- What scopes bind. Assumes nothing.
 use Rattle.std.specs.Prelude.{ℕ, Bool, false, ◌&&◌, Option, ◌==◌, nat_eq}
 use Rattle.std.specs.Str.{bytes_eq}
-use Rattle.std.specs.List.{slice_get}
-use Rattle.names.specs.Any.{any}
+use Rattle.std.specs.List.{list_any, slice_get}
 use Rattle.chunk_tables.specs.Lists.{maybe, place, first_found}
 use Rattle.chunk_tables.specs.Model.{Name, Symbol, Module}
 use Rattle.chunk_tables.specs.Scopes.{enclosing}
@@ -25,8 +24,8 @@ nearest M s n = first_found (λ t. bound_in M t n) (enclosing M s)
 
 -- some scope of the module binds the name
 abbrev pub bound_anywhere : Module → Name → Bool
-bound_anywhere M n = any (binds n) M.symbols
+bound_anywhere M n = list_any (binds n) M.symbols
 
 -- a symbol of the root that is among the named imports
 abbrev pub root_import : Module → ℕ → Bool
-root_import M i = maybe (slice_get M.symbols i) false (λ y. (y.scope == 0) && any (nat_eq i) M.imports)
+root_import M i = maybe (slice_get M.symbols i) false (λ y. (y.scope == 0) && list_any (nat_eq i) M.imports)

@@ -1,5 +1,5 @@
 -- What a cursor over scopes has yet to give. Assumes nothing.
-use Rattle.std.specs.Prelude.{◌≡◌, ℕ, List, [], ◌∷◌, map, Some, None, Option}
+use Rattle.std.specs.Prelude.{ℕ, List, [], map}
 use Rattle.chunk_tables.specs.Lists.{maybe}
 use Rattle.chunk_tables.specs.Scopes.{ancestors}
 use Rattle.chunk_tables.specs.View.{parent_of}
@@ -7,8 +7,3 @@ use Rattle.chunk_tables.specs.declared.scopes.Ancestors.{Ancestors}
 
 abbrev pub to_come : Ancestors → List ℕ
 to_come a = maybe a.at [] (ancestors (map parent_of a.scopes.now) a.root)
-
--- one step gives the first of what is to come, and leaves the rest
-abbrev pub Steps : Ancestors → Option ℕ → Ancestors → Type 0
-Steps a None b = (to_come a ≡ []) × (to_come b ≡ [])
-Steps a (Some s) b = to_come a ≡ s ∷ to_come b

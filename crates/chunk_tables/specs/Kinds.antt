@@ -1,8 +1,7 @@
 -- Which top-level symbols the source names, and which the bundler makes. Assumes nothing.
 use Rattle.std.specs.Prelude.{ℕ, Bool, true, false, cond, not, ◌&&◌, ◌||◌, nat_eq}
-use Rattle.std.specs.List.{slice_get}
+use Rattle.std.specs.List.{list_any, slice_get}
 use Rattle.keys.specs.declared.refs.SymbolRef.{SymbolRef}
-use Rattle.names.specs.Any.{any}
 use Rattle.chunk_tables.specs.declared.kind.RootBindingKind.{RootBindingKind}
 use Rattle.chunk_tables.specs.declared.kind.RootBindingKind.TheVariants.{Authored, Synthesized}
 use Rattle.chunk_tables.specs.declared.parts.ModuleKind.{ModuleKind}
@@ -21,7 +20,7 @@ facade M i = maybe (slice_get M.symbols i) false (λ y. not y.bound)
 
 -- a facade that has a name of the source: a named import, the default export, or a shim of a missing export
 abbrev pub source_facade : Module → ℕ → Bool
-source_facade M i = any (nat_eq i) M.imports || (maybe M.default false (nat_eq i) || any (nat_eq i) M.shims)
+source_facade M i = list_any (nat_eq i) M.imports || (maybe M.default false (nat_eq i) || list_any (nat_eq i) M.shims)
 
 -- the bundler makes the helpers of the runtime, and the facades of normal modules that have no name of the source
 abbrev pub synthesized : Chunk → SymbolRef → Bool

@@ -1,6 +1,6 @@
 // What scopes bind.
 ghost use Rattle.std.specs.Prelude.{◌≡◌, ℕ, List, Option, nat_eq};
-ghost use Rattle.names.specs.Any.{any};
+ghost use Rattle.std.specs.List.{list_any};
 ghost use Rattle.chunk_tables.specs.Bindings.{binds, binds_in, bound_in, nearest, bound_anywhere, root_import};
 ghost use Rattle.chunk_tables.specs.Cursor.{to_come};
 ghost use Rattle.chunk_tables.specs.Lists.{first_found};
@@ -11,7 +11,7 @@ use crate::parts::Symbol;
 use crate::scopes::Ancestors;
 
 // What can tell which symbol a scope binds under a name: a module by going through its symbols, an index of them by a
-// lookup.
+// lookup. A trait and no closure, since both have one meaning. Scope and name are passed as in the Rust.
 pub trait Bindings {
     ghost bound: { Self → ℕ → List ℕ → Option ℕ };
 
@@ -20,16 +20,14 @@ pub trait Bindings {
 }
 
 // The binding of a name in the first of the scopes that binds it.
-pub fn nearest_among<B: Bindings>(bindings: &B, scopes: Ancestors<'_>, name: &[u8]) -> Option<usize>
+pub fn nearest_among<B: Bindings>(
+    bindings: &B,
+    mut scopes: Ancestors<'_>,
+    name: &[u8],
+) -> Option<usize>
     ensures { result ≡ first_found (λ s. B.bound bindings.now s name.now) (to_come scopes.entry) }
 {
-    for scope in scopes {
-        let found = bindings.get_binding(scope, name);
-        if found.is_some() {
-            return found;
-        }
-    }
-    None
+    scopes.find_map(|scope| bindings.get_binding(scope, name))
 }
 
 impl Symbol {
@@ -37,8 +35,7 @@ impl Symbol {
     pub fn binds(&self, name: &[u8]) -> bool
         ensures { result ≡ binds name.now (symbol_of self.now) }
     {
-        let own = self.name.as_slice();
-        self.bound && own == name
+        self.bound && self.name.as_slice() == name
     }
 
     fn binds_in(&self, scope: u32, name: &[u8]) -> bool
@@ -50,27 +47,18 @@ impl Symbol {
 
 // Whether the number is in the list.
 pub fn is_listed(numbers: &[u32], number: usize) -> bool
-    ensures { result ≡ any (nat_eq number) numbers.now }
+    ensures { result ≡ list_any (nat_eq number) numbers.now }
 {
-    for listed in numbers {
-        if number == *listed as usize {
-            return true;
-        }
-    }
-    false
+    numbers.iter().any(|listed| number == *listed as usize)
 }
 
 impl Bindings for Module {
     ghost bound = { λ m s n. bound_in (module_of m) s n };
 
     fn get_binding(&self, scope: u32, name: &[u8]) -> Option<usize> {
-        let symbols = self.symbols.as_slice();
-        for i in 0..symbols.len() {
-            if symbols[i].binds_in(scope, name) {
-                return Some(i);
-            }
-        }
-        None
+        self.symbols
+            .iter()
+            .position(|symbol| symbol.binds_in(scope, name))
     }
 }
 
@@ -86,22 +74,15 @@ impl Module {
     pub fn has_binding(&self, name: &[u8]) -> bool
         ensures { result ≡ bound_anywhere (module_of self.now) name.now }
     {
-        let symbols = self.symbols.as_slice();
-        for symbol in symbols {
-            if symbol.binds(name) {
-                return true;
-            }
-        }
-        false
+        self.symbols.iter().any(|symbol| symbol.binds(name))
     }
 
     // Whether the symbol stands in the root and is among the named imports.
     pub fn is_root_named_import(&self, symbol: usize) -> bool
         ensures { result ≡ root_import (module_of self.now) symbol }
     {
-        let Some(row) = self.symbol_at(symbol) else {
-            return false;
-        };
-        row.scope == 0 && is_listed(self.named_imports.as_slice(), symbol)
+        self.symbol_at(symbol).is_some_and(|row| {
+            row.scope == 0 && is_listed(self.named_imports.as_slice(), symbol)
+        })
     }
 }

@@ -42,7 +42,7 @@ pub struct OtherChunk {
 
 #[derive(Drop)]
 pub struct Chunk {
-    // The format's code.
+    // The format's code. It stays a number, since a chunk may be built with any: the check of the format tells a bad one.
     pub format: u8,
     // How many names may be on record.
     pub records: u32,

@@ -22,7 +22,8 @@ const EXPORTS: &[u8] = b"exports";
 
 const MODULE: &[u8] = b"module";
 
-// The fixed names that the body of a module can print.
+// The fixed names that the body of a module can print. Each case has a static list of its own, so none is made on
+// the heap.
 pub fn fixed_names_in_module_body(module: &Module, format: Format) -> &'static [&'static [u8]]
     ensures { map (λ name. name.now) result.now ≡ fixed_names format (module_of «module».now) }
 {

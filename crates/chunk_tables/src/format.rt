@@ -1,51 +1,60 @@
 // The formats in which a chunk can be written.
 ghost use Rattle.std.specs.Prelude.{◌≡◌};
+ghost use Rattle.std.specs.Result.{result_ok};
 ghost use Rattle.chunk_tables.specs.Formats.{Reads, code_of, of_code};
 
+use std::str::FromStr;
+
+// Each has the code that stands for it in a chunk.
 #[derive(Clone, Copy, Debug, PartialEq, Eq)]
 pub enum Format {
-    Esm,
-    Cjs,
-    Iife,
-    Umd,
+    Esm = 1,
+    Cjs = 2,
+    Iife = 3,
+    Umd = 4,
 }
 
-impl Format {
-    // The format that an option word names.
-    pub fn from_word(word: &str) -> Option<Format>
-        ensures { Reads word.now result }
-    {
-        match word {
-            "esm" => Some(Format::Esm),
-            "cjs" => Some(Format::Cjs),
-            "iife" => Some(Format::Iife),
-            "umd" => Some(Format::Umd),
-            _ => None,
-        }
-    }
+// A code or a word that names no format.
+#[derive(Clone, Copy, Debug, PartialEq, Eq)]
+pub struct UnknownFormat;
 
-    // The code by which a chunk's record has the format.
-    pub fn code(self) -> u8
-        ensures { result ≡ code_of self }
-    {
-        match self {
-            Format::Esm => 1,
-            Format::Cjs => 2,
-            Format::Iife => 3,
-            Format::Umd => 4,
-        }
-    }
+impl From<Format> for u8 {
+    ghost from_gives = { λ format code. code ≡ code_of format };
 
-    // The format of a code.
-    pub fn from_code(code: u8) -> Option<Format>
-        ensures { result ≡ of_code code }
-    {
+    fn from(format: Format) -> u8 {
+        format as u8
+    }
+}
+
+impl TryFrom<u8> for Format {
+    type Error = UnknownFormat;
+
+    ghost try_from_gives = { λ code r. result_ok r ≡ of_code code };
+
+    fn try_from(code: u8) -> Result<Self, UnknownFormat> {
         match code {
-            1 => Some(Format::Esm),
-            2 => Some(Format::Cjs),
-            3 => Some(Format::Iife),
-            4 => Some(Format::Umd),
-            _ => None,
+            1 => Ok(Format::Esm),
+            2 => Ok(Format::Cjs),
+            3 => Ok(Format::Iife),
+            4 => Ok(Format::Umd),
+            _ => Err(UnknownFormat),
+        }
+    }
+}
+
+// The option word of a format is its name in small letters.
+impl FromStr for Format {
+    type Err = UnknownFormat;
+
+    ghost from_str_gives = { λ word r. Reads word (result_ok r) };
+
+    fn from_str(word: &str) -> Result<Self, UnknownFormat> {
+        match word {
+            "esm" => Ok(Format::Esm),
+            "cjs" => Ok(Format::Cjs),
+            "iife" => Ok(Format::Iife),
+            "umd" => Ok(Format::Umd),
+            _ => Err(UnknownFormat),
         }
     }
 }

@@ -8,5 +8,4 @@ pub mod format;
 pub mod kind;
 pub mod links;
 pub mod parts;
-pub mod rows;
 pub mod scopes;

@@ -7,7 +7,6 @@ ghost use Rattle.chunk_tables.specs.View.{chunk_of, module_of, symbol_of};
 
 use crate::chunk::{Chunk, Module};
 use crate::parts::Symbol;
-use crate::rows::row_at;
 use keys::refs::SymbolRef;
 
 // A chunk has no more symbols than this, so a longer chain of links is a circle.
@@ -17,7 +16,7 @@ impl Module {
     pub fn symbol_at(&self, number: usize) -> Option<&Symbol>
         ensures { option_map (λ y. symbol_of y.now) result ≡ slice_get (module_of self.now).symbols number }
     {
-        row_at(self.symbols.as_slice(), number)
+        self.symbols.get(number)
     }
 }
 
@@ -25,7 +24,7 @@ impl Chunk {
     pub fn module_at(&self, number: usize) -> Option<&Module>
         ensures { option_map (λ m. module_of m.now) result ≡ slice_get (chunk_of self.now).modules number }
     {
-        row_at(self.modules.as_slice(), number)
+        self.modules.get(number)
     }
 
     pub fn symbol_at(&self, symbol: SymbolRef) -> Option<&Symbol>
@@ -48,6 +47,8 @@ impl Chunk {
     }
 
     // The symbol at which the chain of links is after so many links, or at which it ends before.
+    // A loop, since a chain of iterators would hide that the walk stops in two ways.
+    #[tactic(auto, using(crate::proofs::Chains::follow_end, crate::proofs::Chains::follow_on))]
     fn follow_links(&self, symbol: SymbolRef, most: usize) -> SymbolRef
         ensures { result ≡ follow (chunk_of self.now) most symbol }
     {
@@ -62,6 +63,7 @@ impl Chunk {
     }
 
     // The end of the chain of links.
+    #[tactic(auto, unfolding(crate::specs::Links::canonical))]
     pub fn canonical_ref_for(&self, symbol: SymbolRef) -> SymbolRef
         ensures { result ≡ canonical (chunk_of self.now) symbol }
     {
@@ -69,6 +71,7 @@ impl Chunk {
     }
 
     // The end of the chain of links of a symbol that is linked to this one.
+    #[tactic(auto, unfolding(crate::specs::Links::end_after))]
     pub fn end_after(&self, link: SymbolRef) -> SymbolRef
         ensures { result ≡ end_after (chunk_of self.now) link }
     {
@@ -80,9 +83,7 @@ impl Chunk {
         ensures { result ≡ printed (chunk_of self.now) symbol }
     {
         let canonical = self.canonical_ref_for(symbol);
-        match self.alias_of(canonical) {
-            Some(alias) => self.canonical_ref_for(alias),
-            None => canonical,
-        }
+        self.alias_of(canonical)
+            .map_or(canonical, |alias| self.canonical_ref_for(alias))
     }
 }

@@ -43,7 +43,8 @@ pub struct Statement {
     pub declared: Vec<SymbolRef>,
 }
 
-// An external module is only referred to; its namespace is one of its symbols.
+// An external module is only referred to; its namespace is one of its symbols. Two kinds, as the Rust's modules have: the
+// `None` of an optional namespace would not say what a normal module is.
 #[derive(Clone, Copy)]
 pub enum ModuleKind {
     Normal,

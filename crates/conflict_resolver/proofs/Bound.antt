@@ -4,7 +4,8 @@ use Rattle.std.proofs.Common.{◌≡◌, ℕ, zero, suc, ◌+◌, ◌-◌, ◌*�
 use Rattle.std.proofs.lemmas.Bool.{cases_Bool, or_parts}
 use Rattle.names.specs.Forms.{form}
 use Rattle.conflict_resolver.specs.Records.{Record, counter_of, raised}
-use Rattle.conflict_resolver.specs.Rules.{Outcome, granted, refused, State, next, done, opening, run, is_base, searched}
+use Rattle.conflict_resolver.specs.Rules.{Outcome, granted, refused, State, next, done, opening, run, searched}
+use Rattle.names.specs.Bases.{is_base}
 use Rattle.conflict_resolver.specs.Laws.{count, is_recorded, is_vetoed, most_probes, Bounded}
 use Rattle.names.proofs.Apart.{form_number}
 use Rattle.conflict_resolver.proofs.Counting.{total, count_more, count_mono, count_split, total_le, total_falls, total_has}

@@ -3,7 +3,8 @@ use Rattle.std.proofs.Common.{◌≡◌, ℕ, zero, suc, ◌+◌, ◌<◌, ◌�
 use Rattle.std.proofs.lemmas.Bool.{ne_eqb}
 use Rattle.names.specs.Forms.{form}
 use Rattle.conflict_resolver.specs.Records.{Record, counter_of, raised, recording}
-use Rattle.conflict_resolver.specs.Rules.{refused, State, next, opening, run, is_base, searched}
+use Rattle.conflict_resolver.specs.Rules.{refused, State, next, opening, run, searched}
+use Rattle.names.specs.Bases.{is_base}
 use Rattle.conflict_resolver.specs.Laws.{Candidate, Granted, Kept, Refused, Sound}
 use Rattle.conflict_resolver.proofs.Lookups.{recorded_same, recorded_other, grown_same, grown_trans, grown_none, grown_raised, apart_raised, apart_recorded, limited_raised, limited_recorded}
 use Rattle.conflict_resolver.proofs.Looks.{Look, raises, worn, skips, spent, takes, looks}

@@ -2,7 +2,8 @@
 use Rattle.std.proofs.Common.{◌≡◌, ℕ, ◌<◌, ◌≤◌, true, false, ltb, List, length, is_some, Some, None, Option, refl, arith}
 use Rattle.std.proofs.lemmas.Bool.{lt-ltb, le-ltb}
 use Rattle.conflict_resolver.specs.Records.{Record, counter_of, recording}
-use Rattle.conflict_resolver.specs.Rules.{made, declined, is_base, reserved}
+use Rattle.conflict_resolver.specs.Rules.{made, declined, reserved}
+use Rattle.names.specs.Bases.{is_base}
 
 pub none_from : {X : Type 0} (o : Option X) → is_some o ≡ false → o ≡ None
 none_from (Some x) e = let z : ◌≡◌ {A = ℕ} 0 1 = cc in absurd (omega arith)

@@ -1,30 +1,34 @@
 -- The steps of a search, as a loop takes them. Assumes nothing.
-use Rattle.std.proofs.Common.{◌≡◌, ℕ, suc, ◌+◌, ◌-◌, ◌<◌, ◌≤◌, Bool, true, false, List, length, sym, ap, ◌∙◌, arith}
-use Rattle.std.proofs.lemmas.Bool.{lt-ltb, le-ltb}
+use Rattle.std.proofs.Common.{◌≡◌, ℕ, suc, ◌+◌, ◌-◌, ◌<◌, ◌≤◌, Bool, true, false, ◌==◌, List, length, sym, ap, ◌∙◌, arith}
+use Rattle.std.proofs.lemmas.Bool.{lt-ltb, le-ltb, ne_eqb}
 use Rattle.names.specs.Forms.{form}
 use Rattle.conflict_resolver.specs.Records.{Record, counter_of}
-use Rattle.conflict_resolver.specs.Rules.{Outcome, refused, State, next, done, follow, sight, probed, opening, run, is_base, searched}
+use Rattle.conflict_resolver.specs.Rules.{Outcome, refused, State, next, done, follow, sight, probed, opening, run, searched}
+use Rattle.names.specs.Bases.{is_base}
 use Rattle.conflict_resolver.specs.Laws.{Sound, Bounded}
 use Rattle.conflict_resolver.proofs.Grant.{sound}
 use Rattle.conflict_resolver.proofs.Bound.{run_done, bounded}
 
 module _ (vetoes : List ℕ → Bool → Bool) (b : List ℕ) where
-  run_more : (n : ℕ) (es : List Record) (k p : ℕ) → p < n → run vetoes b (n - p) (next es k p) ≡ run vetoes b (n - (p + 1)) (probed vetoes b es k p)
+  run_more : (n : ℕ) (es : List Record) (k q : ℕ) → q ≤ n → run vetoes b (suc n - q) (next es k (q - 1)) ≡ run vetoes b (n - q) (probed vetoes b es k (q - 1))
   unfolding run
-  run_more n es k p l = let e : n - p ≡ suc (n - (p + 1)) = omega arith in rw e
+  run_more n es k q l = let e : suc n - q ≡ suc (n - q) = omega arith in rw e
 
-  -- a probe that leads on, to the number j
-  pub turns : (es fs : List Record) (k j p : ℕ) → p < 4096 → next fs j (p + 1) ≡ probed vetoes b es k p → run vetoes b (4096 - (p + 1)) (next fs j (p + 1)) ≡ run vetoes b (4096 - p) (next es k p)
-  turns es fs k j p l e = ap (run vetoes b (4096 - (p + 1))) e ∙ sym (run_more 4096 es k p l)
+  -- probe q leads on, to the number j
+  pub turns : (es fs : List Record) (k j q : ℕ) → q ≤ 4096 → next fs j q ≡ probed vetoes b es k (q - 1) → run vetoes b (4097 - (q + 1)) (next fs j (q + 1 - 1)) ≡ run vetoes b (4097 - q) (next es k (q - 1))
+  turns es fs k j q l e =
+      let n : 4097 - (q + 1) ≡ 4096 - q = omega arith in
+      let i : q + 1 - 1 ≡ q = omega arith in
+      rw (n, i, e) (sym (run_more 4096 es k q l))
 
-  -- a probe that ends the search
-  pub finds : (es : List Record) (k p : ℕ) (o : Outcome) → p < 4096 → done o ≡ probed vetoes b es k p → o ≡ run vetoes b (4096 - p) (next es k p)
-  finds es k p o l e = sym (run_more 4096 es k p l ∙ ap (run vetoes b (4096 - (p + 1))) (sym e) ∙ run_done vetoes b (4096 - (p + 1)) o)
+  -- probe q ends the search
+  pub finds : (es : List Record) (k q : ℕ) (o : Outcome) → q ≤ 4096 → done o ≡ probed vetoes b es k (q - 1) → o ≡ run vetoes b (4097 - q) (next es k (q - 1))
+  finds es k q o l e = sym (run_more 4096 es k q l ∙ ap (run vetoes b (4096 - q)) (sym e) ∙ run_done vetoes b (4096 - q) o)
 
   -- no probe is left
-  pub runs_out : (es : List Record) (k p : ℕ) → 4096 ≤ p → refused es 12 ≡ run vetoes b (4096 - p) (next es k p)
+  pub runs_out : (es : List Record) (k q p : ℕ) → 4097 ≤ q → refused es 12 ≡ run vetoes b (4097 - q) (next es k p)
   unfolding run
-  runs_out es k p l = let e : 4096 - p ≡ 0 = omega arith in rw e
+  runs_out es k q p l = let e : 4097 - q ≡ 0 = omega arith in rw e
 
   pub begins : (slots : ℕ) (es : List Record) (st : State) → is_base b ≡ true → length es < slots → st ≡ opening vetoes b es → run vetoes b 4096 st ≡ searched vetoes b slots es
   unfolding searched
@@ -48,6 +52,10 @@ module _ (vetoes : List ℕ → Bool → Bool) (b : List ℕ) where
   pub bounded_of : (slots : ℕ) (es : List Record) (o : Outcome) → o ≡ searched vetoes b slots es → Bounded vetoes b es o
   bounded_of slots es o e = rw e (bounded vetoes b es slots)
 
-  -- a look at a candidate that spells the form of number k is a probe
-  pub at_form : (es : List Record) (k p : ℕ) (c : List ℕ) (st : State) → c ≡ form b k → st ≡ follow es c k (p + 1) (sight (counter_of es c) (vetoes c false)) → st ≡ probed vetoes b es k p
-  at_form es k p c st e h = h ∙ ap (λ (d : List ℕ). follow es d k (p + 1) (sight (counter_of es d) (vetoes d false))) e
+  -- probe q is a look at a candidate that spells the form of number k
+  pub at_form : (es : List Record) (k q : ℕ) (c : List ℕ) (st : State) → 1 ≤ k → 1 ≤ q → c ≡ form b k → st ≡ follow es c k q (sight (counter_of es c) (vetoes c (k == 0))) → st ≡ probed vetoes b es k (q - 1)
+  at_form es k q c st l m e h =
+      let i : q - 1 + 1 ≡ q = omega arith in
+      let f : (k == 0) ≡ false = ne_eqb k 0 (omega arith) in
+      h ∙ ap (λ t. follow es c k q (sight (counter_of es c) (vetoes c t))) f
+      ∙ ap (λ (d : List ℕ). follow es d k q (sight (counter_of es d) (vetoes d false))) e ∙ ap (λ n. follow es (form b k) k n (sight (counter_of es (form b k)) (vetoes (form b k) false))) (sym i)

@@ -1,5 +1,5 @@
 -- What the calls of a resolver answer, in the words of the rules. Assumes nothing.
-use Rattle.std.specs.Prelude.{ℕ, ◌<◌, ◌≤◌, List, length, Ok, Err, Result}
+use Rattle.std.specs.Prelude.{ℕ, ◌<◌, ◌≤◌, List, length, Some, None, Ok, Err, Option, Result}
 use Rattle.names.specs.Refusals.{number_of}
 use Rattle.names.specs.Spelt.{spelt}
 use Rattle.names.specs.declared.refusal.Refusal.{Refusal}
@@ -8,20 +8,18 @@ use Rattle.conflict_resolver.specs.Records.{Record}
 use Rattle.conflict_resolver.specs.Rules.{Outcome, State, Reservation, next, done, granted, refused, made, declined}
 use Rattle.conflict_resolver.specs.declared.resolver.ConflictResolver.{ConflictResolver}
 use Rattle.conflict_resolver.specs.declared.resolver.search.Resolved.{Resolved}
-use Rattle.conflict_resolver.specs.declared.resolver.search.Look.{Look}
-use Rattle.conflict_resolver.specs.declared.resolver.search.Look.TheVariants.{Next, Free, Over}
 
 -- the state after p probes, where the last look was at c and left the records fs
-abbrev pub looked : Look → List Record → List ℕ → ℕ → State
-looked (Next k) fs c p = next fs k p
-looked Free fs c p = done (granted fs c p)
-looked Over fs c p = done (refused fs 11)
+abbrev pub looked : Result (Option ℕ) Refusal → List Record → List ℕ → ℕ → State
+looked (Ok (Some k)) fs c p = next fs k p
+looked (Ok None) fs c p = done (granted fs c p)
+looked (Err e) fs c p = done (refused fs (number_of e))
 
 -- where the search goes on, the number is that of a form, and a record is still free
-abbrev pub Going : Look → ConflictResolver → Type 0
-Going (Next k) t = (1 ≤ k) × (k ≤ 9999) × (length (held t) < room t)
-Going Free t = Unit {0}
-Going Over t = Unit {0}
+abbrev pub Going : Result (Option ℕ) Refusal → ConflictResolver → Type 0
+Going (Ok (Some k)) t = (1 ≤ k) × (k ≤ 9999) × (length (held t) < room t)
+Going (Ok None) t = Unit {0}
+Going (Err e) t = Unit {0}
 
 -- the outcome that an answer tells, with the records fs after it
 abbrev pub answered : Result Resolved Refusal → List Record → Outcome

@@ -4,7 +4,7 @@ use Rattle.std.specs.List.Sorted.{IsPermutation}
 use Rattle.names.specs.declared.name.Name.{Name}
 use Rattle.keys.specs.Names.{name_under}
 use Rattle.keys.specs.Order.{Rising}
-use Rattle.keyed_table.specs.View as table
+use Rattle.keyed_table.specs.Contents as table
 use Rattle.keyed_table.specs.declared.slot.Entry.{Entry}
 use Rattle.conflict_resolver.specs.Records.{Record}
 use Rattle.conflict_resolver.specs.Rows.{record_of}
@@ -12,7 +12,7 @@ use Rattle.conflict_resolver.specs.declared.resolver.ConflictResolver.{ConflictR
 
 -- the rows of the memory that are used, in the order in which they were filled
 abbrev pub rows : ConflictResolver → List (Entry Name ℕ)
-rows r = table.entries r.used
+rows r = r.used.entries
 
 -- the records, in the order in which they were made
 abbrev pub held : ConflictResolver → List Record

@@ -1,6 +1,7 @@
 -- The search for a free name, one clause a rule. `vetoes c bare` tells whether the policy vetoes the candidate c.
 -- Assumes nothing.
-use Rattle.std.specs.Prelude.{ℕ, zero, suc, ◌+◌, Bool, true, false, ◌&&◌, List, length, Some, None, Option, nat_le, nat_lt}
+use Rattle.std.specs.Prelude.{ℕ, zero, suc, ◌+◌, Bool, true, false, List, length, Some, None, Option, nat_lt}
+use Rattle.names.specs.Bases.{is_base}
 use Rattle.names.specs.Forms.{form}
 use Rattle.conflict_resolver.specs.Records.{Record, counter_of, raised, recording}
 
@@ -38,10 +39,6 @@ follow es c k p (recorded n) = onward (nat_lt n 9999) es (raised es c) n p
 follow es c k p vetoed = onward (nat_lt k 9999) es es k p
 -- free: it is recorded with 0, and is the answer
 follow es c k p free = done (granted (recording es c) c p)
-
--- a base has 1 to 100 bytes
-abbrev pub is_base : List ℕ → Bool
-is_base b = nat_lt 0 (length b) && nat_le (length b) 100
 
 module _ (vetoes : List ℕ → Bool → Bool) (b : List ℕ) where
   -- the first look is at the base itself

@@ -1,7 +1,4 @@
 // Name records in memory that the caller makes, hands over and gets back.
-ghost use Rattle.keyed_table.specs.Laws.{Tagged};
-ghost use Rattle.keys.specs.Names.{name_hash};
-ghost use Rattle.keyed_table.specs.View.{entries, stored};
 ghost use Rattle.conflict_resolver.specs.Rows.{Once};
 
 use keyed_table::slot::{Entry, Slot};
@@ -22,6 +19,5 @@ pub type RecordSlot = Slot<Name, u16>;
 #[derive(Drop)]
 pub struct ConflictResolver {
     used: Table<Name, u16>,
-    ghost tagged: { Tagged name_hash (stored used) },
-    ghost once: { ∥ Once (entries used) ∥₁ },
+    ghost once: { ∥ Once used.entries ∥₁ },
 }

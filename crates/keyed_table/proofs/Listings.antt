@@ -1,19 +1,18 @@
 -- A listing by keys: its keys ascend strictly, since no two are the same. Assumes nothing.
-use Rattle.std.proofs.Common.{◌≡◌, ℕ, ◌+◌, ◌<◌, Bool, true, cond, eqb, List, [], ◌∷◌, ◌++◌, map, length, get_or, take, drop, sym, refl, ap, ◌∙◌, subst, ⊎_elim, arith}
-use Rattle.std.specs.List.Sorted.{IsPermutation}
+use Rattle.std.proofs.Common.{◌≡◌, ℕ, ◌+◌, ◌<◌, Bool, true, cond, eqb, Ordering, Option, List, [], ◌∷◌, ◌++◌, map, length, get_or, take, drop, sym, refl, ap, ◌∙◌, subst, ⊎_elim, arith}
+use Rattle.std.specs.Cmp.{IsTotalOrder, Agrees}
+use Rattle.std.specs.Ordering.{is_lt, is_some_and, partial_lt}
+use Rattle.std.specs.List.Sorted.{IsPermutation, IsSortedByKey}
 use Rattle.std.specs.List.{swap}
 use Rattle.std.proofs.lemmas.List.Edits.{swapped_from_swap}
 use Rattle.std.proofs.lemmas.List.{length-map, get_or-map, length-set, take_at, drop_at}
 use Rattle.std.proofs.lemmas.List.Sorted.{length_permutation, IsPermutation-keeps}
 use Rattle.std.proofs.lemmas.Bool.{cases_eq, cases_order, cases_Bool, cond-true, cond-false, eq-eqb, ne_eqb}
 use Rattle.std.proofs.lemmas.Bool.Decides.{nat_tests}
-use Rattle.keyed_table.specs.Laws.{Tagged}
-use Rattle.keyed_table.specs.Model.{Distinct, plain}
+use Rattle.keyed_table.specs.Model.{Distinct}
 use Rattle.keys.specs.Order.{Strict, Rising}
-use Rattle.keyed_table.specs.Sorted.{Sorted}
-use Rattle.keyed_table.specs.View.{Listed}
+use Rattle.keyed_table.specs.Listed.{Sorted, Listed}
 use Rattle.keyed_table.specs.declared.slot.Entry.{Entry}
-use Rattle.keyed_table.specs.declared.slot.Stored.{Stored}
 use Rattle.keyed_table.proofs.Held.{front}
 
 -- ---- an exchange keeps apart what is apart
@@ -63,32 +62,17 @@ module _ {X Y : Type 0} (f : X → Y) where
 
 -- ---- the listing
 
-module _ {K V : Type 0} {under : K → K → Bool} (hashed : K → ℕ) (o : Strict under) (ss : List (Stored K V)) (apart : Distinct ss) where
-  -- one key at two places is two equal hashes
-  one_place : (i j : ℕ) (d : Stored K V) → Tagged hashed ss → i < j → j < length ss → (get_or ss i d).key ≡ (get_or ss j d).key → ⊥
-  one_place i j d tags l m e =
-      apart (record {
-        i = i;
-        j = j;
-        d = d;
-        less = l;
-        within = m;
-        hash = tags i d (omega arith) ∙ ap hashed e ∙ sym (tags j d m);
-        key = e;
-      })
-
-  keys_apart : Tagged hashed ss → Apart (λ e. e.key) (map plain ss)
-  keys_apart tags i j d l m e =
-      let n = length-map ss plain in
-      let s = front ss (omega arith) in
-      let at : (k : ℕ) → k < length ss → (get_or (map plain ss) k d).key ≡ (get_or ss k s).key = λ k h. ap (λ x. x.key) (get_or-map plain ss k s d h) in
-      let same : (get_or ss i s).key ≡ (get_or ss j s).key = sym (at i (omega arith)) ∙ e ∙ at j (omega arith) in
+module _ {K V : Type 0} {under : K → K → Bool} (o : Strict under) (es : List (Entry K V)) (apart : Distinct es) where
+  keys_apart : Apart (λ e. e.key) es
+  keys_apart i j d l m e =
       ⊎_elim (λ eq. eq)
-      (⊎_elim (λ lt. absurd (one_place i j s tags lt (omega arith) same)) (λ gt. absurd (one_place j i s tags gt (omega arith) (sym same))))
+      (⊎_elim
+      (λ lt. absurd (apart (record { i = i; j = j; d = d; less = lt; within = m; key = e })))
+      (λ gt. absurd (apart (record { i = j; j = i; d = d; less = gt; within = l; key = sym e }))))
       (cases_order i j)
 
-  rising : (ys : List (Entry K V)) → IsPermutation (map plain ss) ys → Sorted under ys (length ys) → Tagged hashed ss → Rising under (map (λ e. e.key) ys)
-  rising ys shuffled sorted tags k d l =
+  rising : (ys : List (Entry K V)) → IsPermutation es ys → Sorted under ys (length ys) → Rising under (map (λ e. e.key) ys)
+  rising ys shuffled sorted k d l =
       let n = length-map ys (λ e. e.key) in
       let y = front ys (omega arith) in
       let at : (i : ℕ) → i < length ys → get_or (map (λ e. e.key) ys) i d ≡ (get_or ys i y).key = λ i h. get_or-map (λ e. e.key) ys i y d h in
@@ -97,20 +81,26 @@ module _ {K V : Type 0} {under : K → K → Bool} (hashed : K → ℕ) (o : Str
       let less : under x z ≡ true =
       ⊎_elim (λ t. t)
       (λ f.
-      let one = apart_shuffled (λ e. e.key) (map plain ss) ys shuffled (keys_apart tags) k (k + 1) y (omega arith) (omega arith) (o.total x z f (sorted k y (omega arith))) in
+      let one = apart_shuffled (λ e. e.key) es ys shuffled keys_apart k (k + 1) y (omega arith) (omega arith) (o.total x z f (sorted k y (omega arith))) in
       absurd (omega arith))
       (cases_Bool (under x z)) in
       ap (λ a. under a (get_or (map (λ e. e.key) ys) (k + 1) d)) (at k (omega arith)) ∙ ap (under x) (at (k + 1) (omega arith)) ∙ less
 
-  pub listed : (was copied ys : List (Entry K V)) (n : ℕ) → n ≡ length ss → take n copied ≡ map plain ss → drop n copied ≡ drop n was → IsPermutation (take n copied) ys → Sorted under ys (length ys) → Listed under hashed ss was (ys ++ drop n copied) n
+  pub listed : (was copied ys : List (Entry K V)) (n : ℕ) → n ≡ length es → take n copied ≡ es → drop n copied ≡ drop n was → IsPermutation (take n copied) ys → Sorted under ys (length ys) → Listed under es was (ys ++ drop n copied) n
   listed was copied ys n count copies rest shuffled sorted =
-      let long : length ys ≡ n = length_permutation (take n copied) ys shuffled ∙ ap length copies ∙ length-map ss plain ∙ sym count in
+      let long : length ys ≡ n = length_permutation (take n copied) ys shuffled ∙ ap length copies ∙ sym count in
       let is = take_at ys (drop n copied) n long in
       let moved = subst (λ t. IsPermutation t ys) copies shuffled in
       record {
         count = count;
-        shuffled = subst (IsPermutation (map plain ss)) (sym is) moved;
-        sorted = subst (λ t. Sorted under t n) (sym is) (subst (Sorted under ys) long sorted);
-        rising = λ tags. subst (λ t. Rising under (map (λ e. e.key) t)) (sym is) (rising ys moved sorted tags);
+        shuffled = subst (IsPermutation es) (sym is) moved;
+        rising = subst (λ t. Rising under (map (λ e. e.key) t)) (sym is) (rising ys moved sorted);
         rest = drop_at ys (drop n copied) n long ∙ rest;
       }
+
+-- what a sort by the keys leaves, where the keys compare as they stand
+pub sorted_by : {K V : Type 0} {cmp : K → K → Ordering} {partial : K → K → Option Ordering} {under : K → K → Bool} → IsTotalOrder cmp → Agrees partial cmp → ((x y : K) → partial_lt partial x y ≡ under x y) → (ys : List (Entry K V)) → IsSortedByKey (λ e. e.key) cmp ys → Sorted under ys (length ys)
+sorted_by {cmp = cmp} {partial = partial} order same agrees ys up k d l =
+    let x = (get_or ys k d).key in
+    let y = (get_or ys (k + 1) d).key in
+    sym (agrees y x) ∙ ap (is_some_and is_lt) (same y x) ∙ up k d (omega arith) (omega arith)

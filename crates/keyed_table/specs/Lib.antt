@@ -1,6 +1,5 @@
-pub mod Sorted
-pub mod Ranks
 pub mod Model
+pub mod Contents
 pub mod Laws
 pub mod Links
-pub mod View
+pub mod Listed

@@ -1,34 +1,34 @@
--- How the slots of a table hold what was stored, and how they are linked. Assumes nothing.
+-- How the slots of a table hold its entries, and how they are linked. Assumes nothing.
 use Rattle.std.specs.Prelude.{◌≡◌, ℕ, zero, suc, ◌%◌, ◌<◌, ◌≤◌, true, cond, List, map, length, get_or, take, is_some, Some, None, Option, ◌==◌, slice_index, slice_index_or}
 use Rattle.std.specs.Option.{option_to_list}
 use Rattle.std.specs.List.{flat_map}
 use Rattle.keyed_table.specs.Model.{Distinct}
-use Rattle.keyed_table.specs.declared.slot.Stored.{Stored}
+use Rattle.keyed_table.specs.declared.slot.Entry.{Entry}
 use Rattle.keyed_table.specs.declared.slot.Slot.{Slot}
 
--- a slot in which nothing is stored
+-- a slot with no entry
 abbrev pub blank : {K V : Type 0} → Slot K V
-blank = record { stored = None; head = None; next = None }
+blank = record { entry = None; head = None; next = None }
 
 abbrev pub AllBlank : {K V : Type 0} → List (Slot K V) → Type 0
 AllBlank {K} {V} slots = (k : ℕ) (d : Slot K V) → k < length slots → slice_index_or slots k d ≡ blank
 
 -- what the first n slots hold
-abbrev pub held : {K V : Type 0} → List (Slot K V) → ℕ → List (Stored K V)
-held slots n = flat_map (λ s. option_to_list s.stored) (take n slots)
+abbrev pub held : {K V : Type 0} → List (Slot K V) → ℕ → List (Entry K V)
+held slots n = flat_map (λ s. option_to_list s.entry) (take n slots)
 
 -- the largest i below n with home b, if there is one
 abbrev pub latest : List ℕ → ℕ → ℕ → Option ℕ
 latest homes b zero = None
 latest homes b (suc n) = cond (slice_index homes n == b) (Some n) (latest homes b n)
 
--- the bucket of each, of cap buckets
-abbrev pub homes : {K V : Type 0} → ℕ → List (Stored K V) → List ℕ
-homes cap ss = map (λ s. s.hash % cap) ss
+-- the bucket of each entry, of cap buckets
+abbrev pub homes : {K V : Type 0} → (K → ℕ) → ℕ → List (Entry K V) → List ℕ
+homes hashed cap es = map (λ e. hashed e.key % cap) es
 
 -- the first len slots are full
 abbrev pub Full : {K V : Type 0} → List (Slot K V) → ℕ → Type 0
-Full {K} {V} slots len = (i : ℕ) (d : Slot K V) → i < len → is_some (get_or slots i d).stored ≡ true
+Full {K} {V} slots len = (i : ℕ) (d : Slot K V) → i < len → is_some (get_or slots i d).entry ≡ true
 
 -- each slot's head is the newest of its bucket
 abbrev pub Heads : {K V : Type 0} → List (Slot K V) → ℕ → List ℕ → Type 0
@@ -39,9 +39,9 @@ abbrev pub Nexts : {K V : Type 0} → List (Slot K V) → ℕ → List ℕ → T
 Nexts {K} {V} slots len hs = (i : ℕ) (d : Slot K V) → i < len → (get_or slots i d).next ≡ latest hs (slice_index hs i) i
 
 -- what the slots of a table keep
-pub record Wired {K V : Type 0} (slots : List (Slot K V)) (len : ℕ) : Type 0 where
+pub record Wired {K V : Type 0} (hashed : K → ℕ) (slots : List (Slot K V)) (len : ℕ) : Type 0 where
   pub within : len ≤ length slots
   pub full : Full slots len
-  pub heads : Heads slots len (homes (length slots) (held slots len))
-  pub nexts : Nexts slots len (homes (length slots) (held slots len))
+  pub heads : Heads slots len (homes hashed (length slots) (held slots len))
+  pub nexts : Nexts slots len (homes hashed (length slots) (held slots len))
   pub distinct : Distinct (held slots len)

@@ -1,21 +1,26 @@
-// The table's type. A ghost field that equates options stands in `∥ ∥₁`, which says that what it encloses holds.
-ghost use Rattle.std.specs.Prelude.{◌≤◌, length};
-ghost use Rattle.keyed_table.specs.Links.{Full, Heads, Nexts, held, homes};
-ghost use Rattle.keyed_table.specs.Model.{Distinct};
-
+// The table's type.
 use crate::slot::Slot;
+use keys::key::HashKey;
+use std::marker::Model;
 
-pub mod listing;
 pub mod methods;
-pub mod sizes;
 
+// One entry for each key, in the order in which the keys came. The first `len` slots are full: the memory is the
+// caller's, and does not grow.
 #[derive(Drop)]
-pub struct Table<K, V> {
+pub struct Table<K: HashKey, V> {
     slots: Vec<Slot<K, V>>,
     len: usize,
-    ghost within: { len ≤ length slots.items },
-    ghost full: { Full slots.items len },
-    ghost heads: { ∥ Heads slots.items len (homes (length slots.items) (held slots.items len)) ∥₁ },
-    ghost nexts: { ∥ Nexts slots.items len (homes (length slots.items) (held slots.items len)) ∥₁ },
-    ghost distinct: { Distinct (held slots.items len) },
+}
+
+impl<K: HashKey, V> Model for Table<K, V> {
+    ghost use Rattle.keyed_table.specs.Contents.{Contents};
+
+    ghost Value = { Contents K V };
+
+    ghost use Rattle.keyed_table.specs.Links.{Wired, held};
+
+    ghost view = { λ t. record { entries = held t.slots.items t.len; memory = t.slots.items } };
+
+    ghost invariant = { λ t. Wired K.hashed t.slots.items t.len };
 }

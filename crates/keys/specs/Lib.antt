@@ -4,3 +4,4 @@ pub mod Names
 pub mod Bindings
 pub mod Scoped
 pub mod Texts
+pub mod Numbers

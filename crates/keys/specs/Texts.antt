@@ -1,9 +1,12 @@
 -- The order of names. Assumes nothing.
 use Rattle.std.specs.Prelude.{◌≡◌, ℕ, true, false, List, [], ◌∷◌, refl}
+use Rattle.std.specs.Ordering.{is_lt, nat_cmp, on, as_partial_cmp, partial_lt}
+use Rattle.std.specs.Cmp.Lexicographic.{slice_cmp}
 use Rattle.std.proofs.Common.{sym, arith}
 use Rattle.std.proofs.lemmas.Bool.{false≢true}
 use Rattle.std.proofs.lemmas.Bool.Decides.{nat_tests}
 use Rattle.names.specs.Spelt.{spelt}
+use Rattle.names.specs.declared.name.Name.{Name}
 use Rattle.names.proofs.Padding.{same_name}
 use Rattle.keys.specs.Names.{lex, name_under}
 use Rattle.keys.specs.Order.{Strict}
@@ -37,3 +40,12 @@ name_order = record {
   trans = λ x y z. lex_trans (spelt x) (spelt y) (spelt z);
   total = λ x y p q. same_name x y (lex_total (spelt x) (spelt y) p q);
 }
+
+lex_agrees : (xs ys : List ℕ) → is_lt (slice_cmp nat_cmp xs ys) ≡ lex xs ys
+lex_agrees [] [] = refl
+lex_agrees [] (y ∷ ys) = refl
+lex_agrees (x ∷ xs) [] = refl
+lex_agrees (x ∷ xs) (y ∷ ys) = let ih = lex_agrees xs ys in grind (arith, nat_tests)
+
+pub name_agrees : (x y : Name) → partial_lt (as_partial_cmp (on spelt (slice_cmp nat_cmp))) x y ≡ name_under x y
+name_agrees x y = lex_agrees (spelt x) (spelt y)

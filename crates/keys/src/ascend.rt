@@ -8,10 +8,5 @@ use crate::key::OrderedKey;
 pub fn ascends<K: OrderedKey>(keys: &[K]) -> bool
     ensures { Decides result (Rising K.under keys.now) }
 {
-    for i in 1..keys.len() {
-        if !keys[i - 1].below(&keys[i]) {
-            return false;
-        }
-    }
-    true
+    keys.is_sorted_by(|a, b| a < b)
 }

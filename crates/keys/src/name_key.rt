@@ -1,9 +1,9 @@
 // Names as keys.
 ghost use Rattle.std.specs.Prelude.{◌≡◌, fold};
 ghost use Rattle.keys.specs.Refs.{mixed};
-ghost use Rattle.keys.specs.Names.{name_alike, name_hash, name_under};
+ghost use Rattle.keys.specs.Names.{name_hash, name_under};
 ghost use Rattle.names.proofs.Padding.{name_decides};
-ghost use Rattle.keys.specs.Texts.{name_order};
+ghost use Rattle.keys.specs.Texts.{name_agrees, name_order};
 
 use crate::key::{HashKey, OrderedKey};
 use crate::refs::impls::mix;
@@ -13,23 +13,13 @@ use names::name::Name;
 fn hash_bytes(bytes: &[u8]) -> u32
     ensures { result ≡ fold mixed 0 bytes.now }
 {
-    let mut h = 0;
-    for b in bytes {
-        h = mix(h, *b as u32);
-    }
-    h
+    bytes.iter().fold(0, |h, b| mix(h, u32::from(*b)))
 }
 
 impl HashKey for Name {
-    ghost alike = { name_alike };
-
     ghost hashed = { name_hash };
 
     ghost tells = { name_decides };
-
-    fn same(&self, other: &Name) -> bool {
-        self == other
-    }
 
     fn hash(&self) -> u32 {
         hash_bytes(self.as_bytes())
@@ -41,7 +31,5 @@ impl OrderedKey for Name {
 
     ghost order = { name_order };
 
-    fn below(&self, other: &Name) -> bool {
-        self.as_bytes() < other.as_bytes()
-    }
+    ghost agrees = { name_agrees };
 }

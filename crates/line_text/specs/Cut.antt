@@ -1,17 +1,15 @@
 -- A text cut at a byte. Assumes nothing.
-use Rattle.std.specs.Prelude.{ℕ, cond, List, [], ◌∷◌, ◌==◌}
+use Rattle.std.specs.Prelude.{ℕ, not, List, drop, ◌==◌}
+use Rattle.std.specs.List.{before_first, after_first, position_or_len}
 
--- what stands before the first b
+-- what stands before the first b; the whole text where there is none
 abbrev pub until : ℕ → List ℕ → List ℕ
-until b [] = []
-until b (x ∷ xs) = cond (x == b) [] (x ∷ until b xs)
+until b xs = before_first (λ x. x == b) xs
 
--- what follows the first b
+-- what follows the first b; nothing where there is none
 abbrev pub past : ℕ → List ℕ → List ℕ
-past b [] = []
-past b (x ∷ xs) = cond (x == b) xs (past b xs)
+past b xs = after_first (λ x. x == b) xs
 
--- the text without the spaces in front
+-- the text from its first byte that is no space
 abbrev pub trimmed : List ℕ → List ℕ
-trimmed [] = []
-trimmed (x ∷ xs) = cond (x == 32) (trimmed xs) (x ∷ xs)
+trimmed xs = drop (position_or_len (λ x. not (x == 32)) xs) xs

@@ -1,4 +1,4 @@
-// A text cut at the first of some byte.
+// A text cut at the first of some byte. Each `match` has two parts of the text as its arms, which `map_or` would hide.
 ghost use Rattle.std.specs.Prelude.{◌≡◌};
 ghost use Rattle.line_text.specs.Cut.{until, past, trimmed};
 
@@ -7,22 +7,18 @@ pub fn cut(text: &[u8], at: u8) -> (&[u8], &[u8])
     ensures before { result.0.now ≡ until at text.now }
     ensures behind { result.1.now ≡ past at text.now }
 {
-    for i in 0..text.len() {
-        if text[i] == at {
-            return (&text[0..i], &text[i + 1..]);
-        }
+    match text.iter().position(|byte| *byte == at) {
+        Some(i) => (&text[..i], &text[i + 1..]),
+        None => (text, &[]),
     }
-    (text, &text[text.len()..])
 }
 
 // The text without the spaces in front.
 pub fn trim_front(text: &[u8]) -> &[u8]
     ensures { result.now ≡ trimmed text.now }
 {
-    for i in 0..text.len() {
-        if text[i] != b' ' {
-            return &text[i..];
-        }
+    match text.iter().position(|byte| *byte != b' ') {
+        Some(i) => &text[i..],
+        None => &[],
     }
-    &text[text.len()..]
 }

@@ -26,8 +26,7 @@ impl<'a> Lines<'a> {
     pub fn number(&self) -> usize
         ensures { result ≡ self.now.passed }
     {
-        let Lines { passed, .. } = self;
-        *passed
+        self.passed
     }
 }
 
@@ -40,7 +39,7 @@ impl<'a> Iterator for Lines<'a> {
 
     // The next line without the spaces in front of it.
     fn next(&mut self) -> Option<&'a [u8]> {
-        if self.rest.len() == 0 {
+        if self.rest.is_empty() {
             return None;
         }
         let (line, rest) = cut(self.rest, b'\n');

@@ -6,22 +6,16 @@ ghost use Rattle.line_text.specs.Numerals.{is_digit, numeral};
 fn with_digit(n: u32, byte: u8) -> Option<u32>
     ensures { result ≡ (if is_digit byte && nat_lt (n * 10 + (byte - 48)) (2 ^ 32) then Some (n * 10 + (byte - 48)) else None) }
 {
-    if byte < b'0' || byte > b'9' {
-        return None;
-    }
-    n.checked_mul(10)?.checked_add((byte - b'0') as u32)
+    let digit = char::from(byte).to_digit(10)?;
+    n.checked_mul(10)?.checked_add(digit)
 }
 
 // The number that the digits write; none where they are no digits, or it does not fit 32 bits.
 pub fn number(digits: &[u8]) -> Option<u32>
     ensures { result ≡ numeral digits.now }
 {
-    if digits.len() == 0 {
+    if digits.is_empty() {
         return None;
     }
-    let mut n: u32 = 0;
-    for byte in digits {
-        n = with_digit(n, *byte)?;
-    }
-    Some(n)
+    digits.iter().try_fold(0, |n, byte| with_digit(n, *byte))
 }

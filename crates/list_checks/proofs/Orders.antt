@@ -1,12 +1,9 @@
--- Neighbours in a list. Assumes nothing.
-use Rattle.std.proofs.Common.{◌≡◌, ℕ, zero, suc, Bool, true, ltb, List, [], ◌∷◌, map, Decides, sym, refl, ◌∙◌, ⊎_elim, arith}
-use Rattle.std.specs.Option.{option_map}
+-- Neighbours in a list, and tests of its elements. Assumes nothing.
+use Rattle.std.proofs.Common.{◌≡◌, zero, suc, Bool, true, ltb, [], ◌∷◌, Decides, sym, ◌∙◌, ⊎_elim, arith}
 use Rattle.std.specs.List.{AllAdjacentBelow}
 use Rattle.std.proofs.lemmas.Bool.{cases_Bool, both_ways}
 use Rattle.keys.specs.Refs.{chunk_under}
 use Rattle.keys.specs.declared.refs.ChunkIdx.{ChunkIdx}
-use Rattle.chunk_tables.proofs.RowViews.{nth_map}
-use Rattle.chunk_faults.specs.Tests.{row_before}
 
 -- two numbers ascend where the first is below the second
 module _ (a b : ChunkIdx) where
@@ -20,8 +17,3 @@ module _ (a b : ChunkIdx) where
       (λ t. t ∙ sym (d.0 t 0 a (omega arith)))
       (λ f. f ∙ sym (⊎_elim (λ u. absurd (both_ways r f (d.1 (two u)))) (λ g. g) (cases_Bool (ltb a.0 b.0))))
       (cases_Bool r)
-
--- the row before, as the model has it
-pub before_map : {X A : Type 0} (v : X → A) (xs : List X) (k : ℕ) → row_before (map v xs) k ≡ option_map v (row_before xs k)
-before_map v xs zero = refl
-before_map v xs (suc k) = nth_map v xs k

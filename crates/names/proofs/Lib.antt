@@ -1,3 +1,2 @@
 pub mod Padding
 pub mod Apart
-pub mod Any

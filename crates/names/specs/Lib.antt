@@ -2,5 +2,4 @@ pub mod Refusals
 pub mod Spelt
 pub mod Forms
 pub mod Words
-pub mod Any
 pub mod Bases

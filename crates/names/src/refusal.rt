@@ -6,21 +6,21 @@ use std::fmt;
 
 #[derive(Clone, Copy, Debug, PartialEq, Eq)]
 pub enum Refusal {
-    OutsideLimit,
-    OutOfRange,
-    OutOfOrder,
-    Misplaced,
-    BadLink,
-    BadReference,
-    BadName,
-    NoSuchSymbol,
-    NotInRoot,
-    NoFreeRecord,
-    CounterLimit,
-    SearchTooLong,
-    NotRepairable,
-    Unrepaired,
-    BufferTooShort,
+    OutsideLimit = 1,
+    OutOfRange = 2,
+    OutOfOrder = 3,
+    Misplaced = 4,
+    BadLink = 5,
+    BadReference = 6,
+    BadName = 7,
+    NoSuchSymbol = 8,
+    NotInRoot = 9,
+    NoFreeRecord = 10,
+    CounterLimit = 11,
+    SearchTooLong = 12,
+    NotRepairable = 13,
+    Unrepaired = 14,
+    BufferTooShort = 15,
 }
 
 impl Refusal {
@@ -28,23 +28,7 @@ impl Refusal {
     pub fn number(self) -> u8
         ensures { result ≡ number_of self }
     {
-        match self {
-            Refusal::OutsideLimit => 1,
-            Refusal::OutOfRange => 2,
-            Refusal::OutOfOrder => 3,
-            Refusal::Misplaced => 4,
-            Refusal::BadLink => 5,
-            Refusal::BadReference => 6,
-            Refusal::BadName => 7,
-            Refusal::NoSuchSymbol => 8,
-            Refusal::NotInRoot => 9,
-            Refusal::NoFreeRecord => 10,
-            Refusal::CounterLimit => 11,
-            Refusal::SearchTooLong => 12,
-            Refusal::NotRepairable => 13,
-            Refusal::Unrepaired => 14,
-            Refusal::BufferTooShort => 15,
-        }
+        self as u8
     }
 
     // What the refusal says to people.
@@ -75,7 +59,6 @@ impl fmt::Display for Refusal {
     ghost output = { λ r. Some (words_of r) };
 
     fn fmt<W: fmt::Write>(&self, f: &mut fmt::Formatter<W>) -> fmt::Result {
-        let words = self.words();
-        write!(f, "{words}")
+        f.write_str(self.words())
     }
 }

@@ -1,6 +1,7 @@
 // The lines of a document.
 use line_text::cut::cut;
 use line_text::numeral::number;
+use std::fmt;
 
 // Which candidates of a name are vetoed.
 #[derive(Clone, Copy)]
@@ -35,25 +36,18 @@ pub enum Fault {
     SpaceAtEnd,
 }
 
-impl Fault {
-    pub fn words(self) -> &'static [u8] {
-        match self {
-            Fault::NoSuchCommand => b"no such command",
-            Fault::RecordsNotFirst => b"records comes first, and once",
-            Fault::NoNumber => b"how many records there are is a number of at most 32 bits",
-            Fault::NoCount => b"how often to resolve is a number of at most 32 bits, and not 0",
-            Fault::NoName => b"a name is missing",
-            Fault::NoSuchVeto => b"a veto is bare, numbered or both of a name, or all, or none",
-            Fault::TooManyWords => b"too many words",
-            Fault::SpaceAtEnd => b"a space at the end",
-        }
-    }
-}
-
-fn ends_in_space(line: &[u8]) -> bool {
-    match line {
-        [.., last] => *last == b' ',
-        [] => false,
+impl fmt::Display for Fault {
+    fn fmt<W: fmt::Write>(&self, f: &mut fmt::Formatter<W>) -> fmt::Result {
+        f.write_str(match self {
+            Fault::NoSuchCommand => "no such command",
+            Fault::RecordsNotFirst => "records comes first, and once",
+            Fault::NoNumber => "how many records there are is a number of at most 32 bits",
+            Fault::NoCount => "how often to resolve is a number of at most 32 bits, and not 0",
+            Fault::NoName => "a name is missing",
+            Fault::NoSuchVeto => "a veto is bare, numbered or both of a name, or all, or none",
+            Fault::TooManyWords => "too many words",
+            Fault::SpaceAtEnd => "a space at the end",
+        })
     }
 }
 
@@ -61,10 +55,10 @@ fn ends_in_space(line: &[u8]) -> bool {
 pub fn parse(line: &[u8], first: bool) -> Result<Command<'_>, Fault> {
     let (verb, words) = cut(line, b' ');
     match verb {
-        b"" => Ok(Command::Nothing),
-        [b'#', ..] => Ok(Command::Nothing),
-        _ if ends_in_space(line) => Err(Fault::SpaceAtEnd),
-        b"records" => parse_records(words, first),
+        b"" | [b'#', ..] => Ok(Command::Nothing),
+        _ if line.ends_with(b" ") => Err(Fault::SpaceAtEnd),
+        b"records" if first => Ok(Command::Records(number(words).ok_or(Fault::NoNumber)?)),
+        b"records" => Err(Fault::RecordsNotFirst),
         b"reserve" => Ok(Command::Reserve(parse_name(words)?)),
         b"veto" => parse_veto(words),
         b"resolve" => parse_resolve(words),
@@ -72,50 +66,33 @@ pub fn parse(line: &[u8], first: bool) -> Result<Command<'_>, Fault> {
     }
 }
 
-fn parse_records(words: &[u8], first: bool) -> Result<Command<'_>, Fault> {
-    if !first {
-        return Err(Fault::RecordsNotFirst);
-    }
-    match number(words) {
-        Some(count) => Ok(Command::Records(count)),
-        None => Err(Fault::NoNumber),
-    }
-}
-
 // The one name that is left on a line.
 fn parse_name(words: &[u8]) -> Result<&[u8], Fault> {
-    let (name, more) = cut(words, b' ');
-    if name.len() == 0 {
-        return Err(Fault::NoName);
+    match cut(words, b' ') {
+        (b"", _) => Err(Fault::NoName),
+        (name, b"") => Ok(name),
+        _ => Err(Fault::TooManyWords),
     }
-    if more.len() > 0 {
-        return Err(Fault::TooManyWords);
-    }
-    Ok(name)
 }
 
 fn parse_veto(words: &[u8]) -> Result<Command<'_>, Fault> {
-    let (kind, more) = cut(words, b' ');
-    match kind {
-        b"bare" => Ok(Command::Veto(Kind::Bare, parse_name(more)?)),
-        b"numbered" => Ok(Command::Veto(Kind::Numbered, parse_name(more)?)),
-        b"both" => Ok(Command::Veto(Kind::Both, parse_name(more)?)),
-        b"all" if more.len() == 0 => Ok(Command::VetoAll),
-        b"none" if more.len() == 0 => Ok(Command::VetoNone),
+    match cut(words, b' ') {
+        (b"all", b"") => Ok(Command::VetoAll),
+        (b"none", b"") => Ok(Command::VetoNone),
+        (b"bare", name) => Ok(Command::Veto(Kind::Bare, parse_name(name)?)),
+        (b"numbered", name) => Ok(Command::Veto(Kind::Numbered, parse_name(name)?)),
+        (b"both", name) => Ok(Command::Veto(Kind::Both, parse_name(name)?)),
         _ => Err(Fault::NoSuchVeto),
     }
 }
 
 fn parse_resolve(words: &[u8]) -> Result<Command<'_>, Fault> {
-    let (base, more) = cut(words, b' ');
-    if base.len() == 0 {
-        return Err(Fault::NoName);
-    }
-    if more.len() == 0 {
-        return Ok(Command::Resolve(base, 1));
-    }
-    match number(more) {
-        Some(times) if times > 0 => Ok(Command::Resolve(base, times)),
-        _ => Err(Fault::NoCount),
+    match cut(words, b' ') {
+        (b"", _) => Err(Fault::NoName),
+        (base, b"") => Ok(Command::Resolve(base, 1)),
+        (base, times) => {
+            let times = number(times).filter(|times| *times > 0);
+            Ok(Command::Resolve(base, times.ok_or(Fault::NoCount)?))
+        }
     }
 }

@@ -3,44 +3,34 @@ use crate::command::{Command, Fault, Kind, parse};
 use crate::print;
 use conflict_resolver::resolver::{ConflictResolver, NameRecord, RecordSlot, Resolved};
 use line_text::lines::Lines;
+use names::limits::MOST_RECORDS;
 use names::name::Name;
 use names::refusal::Refusal;
-use std::alloc::{AllocError, Global};
+use std::alloc::Global;
+use std::io;
 use vetoes::{Veto, Vetoes};
-
-// How many records a document has that does not say, and at most.
-const MOST_RECORDS: u32 = 4096;
 
 const SEPARATOR: &[u8] = b"---";
 
-// What a first reading of a document finds: how many records it wants, and its first faulty line.
-#[derive(Clone, Copy)]
+// What a first reading of a document finds: how many records it has, once a line has said something, and its first
+// faulty line.
+#[derive(Clone, Copy, Default)]
 struct Reading {
-    records: u32,
-    begun: bool,
+    records: Option<u32>,
     fault: Option<(usize, Fault)>,
 }
 
 impl Reading {
-    fn new() -> Reading {
-        Reading {
-            records: MOST_RECORDS,
-            begun: false,
-            fault: None,
-        }
-    }
-
     fn read(&mut self, line: &[u8], number: usize) {
         if self.fault.is_some() {
             return;
         }
-        match parse(line, !self.begun) {
+        match parse(line, self.records.is_none()) {
             Ok(Command::Nothing) => {}
-            Ok(Command::Records(count)) => {
-                self.records = count;
-                self.begun = true;
+            Ok(Command::Records(count)) => self.records = Some(count),
+            Ok(_) => {
+                self.records.get_or_insert(MOST_RECORDS);
             }
-            Ok(_) => self.begun = true,
             Err(fault) => self.fault = Some((number, fault)),
         }
     }
@@ -68,115 +58,89 @@ impl Session {
         self.resolver.resolve(&base, &self.vetoes)
     }
 
-    fn perform(
-        &mut self,
-        heap: Global,
-        command: Command<'_>,
-        out: &mut Vec<u8>,
-    ) -> Result<(), AllocError> {
+    fn perform(&mut self, command: Command<'_>, out: &mut Vec<u8>) -> io::Result<()> {
         match command {
-            Command::Nothing | Command::Records(_) => Ok(()),
-            Command::Reserve(name) => match self.reserve(name) {
-                Ok(()) => Ok(()),
-                Err(refusal) => print::name_refused(heap, name, refusal, out),
-            },
+            Command::Nothing | Command::Records(_) => {}
+            Command::Reserve(name) => {
+                if let Err(refusal) = self.reserve(name) {
+                    print::name_refused(name, refusal, out)?;
+                }
+            }
             Command::Veto(kind, name) => match veto_of(kind, name) {
-                Ok(veto) => self.vetoes.add(veto),
-                Err(refusal) => print::name_refused(heap, name, refusal, out),
+                Ok(veto) => self.vetoes.add(veto)?,
+                Err(refusal) => print::name_refused(name, refusal, out)?,
             },
-            Command::VetoAll => {
-                self.vetoes.add_all();
-                Ok(())
-            }
-            Command::VetoNone => {
-                self.vetoes.clear();
-                Ok(())
-            }
+            Command::VetoAll => self.vetoes.add_all(),
+            Command::VetoNone => self.vetoes.clear(),
             Command::Resolve(base, times) => match self.resolve(base, times) {
-                Ok(found) => print::resolved(heap, base, &found, out),
-                Err(refusal) => print::name_refused(heap, base, refusal, out),
+                Ok(found) => print::resolved(base, &found, out)?,
+                Err(refusal) => print::name_refused(base, refusal, out)?,
             },
         }
+        Ok(())
     }
 
     // The records, ascending by the bytes of their names.
-    fn list(&self, heap: Global, out: &mut Vec<u8>) -> Result<(), AllocError> {
-        let Ok(blank) = Name::new(b"") else {
-            return Ok(());
-        };
-        let row = NameRecord {
-            key: blank,
-            value: 0,
-        };
-        let mut rows = vec![in heap; row; self.resolver.len()]?;
-        let _ = self.resolver.list(rows.as_mut_slice());
-        for row in rows.as_slice() {
-            print::record(heap, row, out)?;
+    fn list(&self, heap: Global, out: &mut Vec<u8>) -> io::Result<()> {
+        let mut rows: Vec<NameRecord> = (0..self.resolver.len())
+            .filter_map(|i| self.resolver.record_at(i))
+            .collect(heap)?;
+        // There is a row for each record, so this is not refused.
+        let _ = self.resolver.list(&mut rows);
+        for row in &rows {
+            print::record(row, out)?;
         }
         Ok(())
     }
 }
 
 fn veto_of(kind: Kind, text: &[u8]) -> Result<Veto, Refusal> {
-    let name = Name::new(text)?;
     Ok(Veto {
-        name,
-        bare: !matches!(kind, Kind::Numbered),
-        numbered: !matches!(kind, Kind::Bare),
+        name: Name::new(text)?,
+        bare: matches!(kind, Kind::Bare | Kind::Both),
+        numbered: matches!(kind, Kind::Numbered | Kind::Both),
     })
 }
 
 // Carries out the document that begins at the lines, and has no faulty one.
-fn perform(
-    heap: Global,
-    lines: Lines<'_>,
-    records: u32,
-    out: &mut Vec<u8>,
-) -> Result<(), AllocError> {
-    if records < 1 || records > MOST_RECORDS {
-        return print::refused(heap, Refusal::OutsideLimit, out);
+fn perform(heap: Global, lines: Lines<'_>, records: u32, out: &mut Vec<u8>) -> io::Result<()> {
+    if !(1..=MOST_RECORDS).contains(&records) {
+        return print::refused(Refusal::OutsideLimit, out);
     }
     let slots = vec![in heap; RecordSlot::empty(); records as usize]?;
     let mut session = Session {
         resolver: ConflictResolver::new(slots),
         vetoes: Vetoes::none(heap),
     };
-    for line in lines {
-        if line == SEPARATOR {
-            break;
-        }
+    for line in lines.take_while(|line| *line != SEPARATOR) {
         if let Ok(command) = parse(line, true) {
-            session.perform(heap, command, out)?;
+            session.perform(command, out)?;
         }
     }
     session.list(heap, out)
 }
 
-fn answer(
-    heap: Global,
-    lines: Lines<'_>,
-    reading: &Reading,
-    out: &mut Vec<u8>,
-) -> Result<(), AllocError> {
+fn answer(heap: Global, lines: Lines<'_>, reading: Reading, out: &mut Vec<u8>) -> io::Result<()> {
     match reading.fault {
-        Some((number, fault)) => print::fault(heap, number, fault, out),
-        None => perform(heap, lines, reading.records, out),
+        Some((number, fault)) => print::fault(number, fault, out),
+        None => perform(heap, lines, reading.records.unwrap_or(MOST_RECORDS), out),
     }
 }
 
 // Answers each document of the text; a line `---` stands between two.
-pub fn answer_all(heap: Global, text: &[u8], out: &mut Vec<u8>) -> Result<(), AllocError> {
+pub fn answer_all(heap: Global, text: &[u8], out: &mut Vec<u8>) -> io::Result<()> {
     let mut lines = Lines::new(text);
     let mut start = lines;
-    let mut reading = Reading::new();
+    let mut reading = Reading::default();
+    // Not a `for`: the lines that are left are where the next document begins.
     while let Some(line) = lines.next() {
         if line == SEPARATOR {
-            answer(heap, start, &reading, out)?;
+            answer(heap, start, reading, out)?;
             start = lines;
-            reading = Reading::new();
+            reading = Reading::default();
         } else {
             reading.read(line, lines.number());
         }
     }
-    answer(heap, start, &reading, out)
+    answer(heap, start, reading, out)
 }

@@ -13,8 +13,8 @@ fn run(rt: &HostRuntime) -> anyhow::Result<()> {
     let mut input = Vec::new(heap);
     rt.stdin().read_to_end(&mut input)?;
     let mut out = Vec::new(heap);
-    answer_all(heap, input.as_slice(), &mut out)?;
-    rt.stdout().write_all(out.as_slice())?;
+    answer_all(heap, &input, &mut out)?;
+    rt.stdout().write_all(&out)?;
     Ok(())
 }
 

@@ -1,52 +1,33 @@
-// The lines of the output.
+// The lines of the output. A name need not be UTF-8, so it is written by its bytes.
 use crate::command::Fault;
 use conflict_resolver::resolver::{NameRecord, Resolved};
 use names::refusal::Refusal;
-use std::alloc::{AllocError, Global};
+use std::io::{self, Write};
 
-pub fn fault(heap: Global, line: usize, fault: Fault, out: &mut Vec<u8>) -> Result<(), AllocError> {
-    let place = format!(in heap; "line {line}: ")?;
-    out.extend_from_slice(place.as_bytes())?;
-    out.extend_from_slice(fault.words())?;
-    out.extend_from_slice(b"\n")
+pub fn fault(line: usize, fault: Fault, out: &mut Vec<u8>) -> io::Result<()> {
+    writeln!(out, "line {line}: {fault}")
 }
 
-pub fn refused(heap: Global, refusal: Refusal, out: &mut Vec<u8>) -> Result<(), AllocError> {
-    let number = refusal.number();
-    let text = format!(in heap; "refused {number} {refusal}\n")?;
-    out.extend_from_slice(text.as_bytes())
+pub fn refused(refusal: Refusal, out: &mut Vec<u8>) -> io::Result<()> {
+    writeln!(out, "refused {} {refusal}", refusal.number())
 }
 
 // A refusal of what the line asks for the name.
-pub fn name_refused(
-    heap: Global,
-    name: &[u8],
-    refusal: Refusal,
-    out: &mut Vec<u8>,
-) -> Result<(), AllocError> {
-    out.extend_from_slice(name)?;
-    out.extend_from_slice(b" ")?;
-    refused(heap, refusal, out)
+pub fn name_refused(name: &[u8], refusal: Refusal, out: &mut Vec<u8>) -> io::Result<()> {
+    out.write_all(name)?;
+    out.write_all(b" ")?;
+    refused(refusal, out)
 }
 
-pub fn resolved(
-    heap: Global,
-    base: &[u8],
-    found: &Resolved,
-    out: &mut Vec<u8>,
-) -> Result<(), AllocError> {
-    let probes = found.probes;
-    let text = format!(in heap; " {probes}\n")?;
-    out.extend_from_slice(base)?;
-    out.extend_from_slice(b" -> ")?;
-    out.extend_from_slice(found.name.as_bytes())?;
-    out.extend_from_slice(text.as_bytes())
+pub fn resolved(base: &[u8], found: &Resolved, out: &mut Vec<u8>) -> io::Result<()> {
+    out.write_all(base)?;
+    out.write_all(b" -> ")?;
+    out.write_all(found.name.as_bytes())?;
+    writeln!(out, " {}", found.probes)
 }
 
-pub fn record(heap: Global, record: &NameRecord, out: &mut Vec<u8>) -> Result<(), AllocError> {
-    let counter = record.value;
-    let text = format!(in heap; " {counter}\n")?;
-    out.extend_from_slice(b"record ")?;
-    out.extend_from_slice(record.key.as_bytes())?;
-    out.extend_from_slice(text.as_bytes())
+pub fn record(record: &NameRecord, out: &mut Vec<u8>) -> io::Result<()> {
+    out.write_all(b"record ")?;
+    out.write_all(record.key.as_bytes())?;
+    writeln!(out, " {}", record.value)
 }

@@ -1,4 +1,5 @@
-use crate::{Everything, Nothing};
+use crate::Constant;
+use conflict_resolver::policy::Policy;
 use conflict_resolver::resolver::{ConflictResolver, NameRecord, RecordSlot};
 use keyed_table::slot::Slot;
 use keyed_table::table::Table;
@@ -7,11 +8,12 @@ use names::name::Name;
 use names::refusal::Refusal;
 use std::test::Fail;
 
+const NOTHING: Constant<false> = Constant;
+
+const EVERYTHING: Constant<true> = Constant;
+
 fn name(text: &[u8]) -> Result<Name, Fail> {
-    match Name::new(text) {
-        Ok(name) => Ok(name),
-        Err(_) => Err(Fail::new("a name of at most 105 bytes")),
-    }
+    Name::new(text).map_err(|_| Fail::new("a name of at most 105 bytes"))
 }
 
 fn resolver(rt: &HostRuntime, records: usize) -> Result<ConflictResolver, Fail> {
@@ -19,21 +21,24 @@ fn resolver(rt: &HostRuntime, records: usize) -> Result<ConflictResolver, Fail> 
     Ok(ConflictResolver::new(slots))
 }
 
-// The number of the refusal, or 0 where a name was granted.
-fn refusal_of(names: &mut ConflictResolver, base: &Name) -> u8 {
-    match names.resolve(base, &Nothing) {
-        Ok(_) => 0,
-        Err(refusal) => refusal.number(),
-    }
+// The number of the refusal, unless a name is granted.
+fn refusal_of<P: Policy>(names: &mut ConflictResolver, base: &Name, policy: &P) -> Option<u8> {
+    names.resolve(base, policy).err().map(Refusal::number)
 }
 
 #[test]
 fn a_base_has_1_to_100_bytes(rt: HostRuntime) -> Result<(), Fail> {
     let mut names = resolver(&rt, 4)?;
-    assert_eq!(rt; refusal_of(&mut names, &name(b"")?), 7);
-    assert_eq!(rt; refusal_of(&mut names, &name(&[b'a'; 101])?), 7);
+    assert_eq!(rt; refusal_of(&mut names, &name(b"")?, &NOTHING), Some(7));
+    assert_eq!(rt;
+        refusal_of(&mut names, &name(&[b'a'; 101])?, &NOTHING),
+        Some(7)
+    );
     assert_eq!(rt; names.len(), 0);
-    assert_eq!(rt; refusal_of(&mut names, &name(&[b'a'; 100])?), 0);
+    assert_eq!(rt;
+        refusal_of(&mut names, &name(&[b'a'; 100])?, &NOTHING),
+        None
+    );
     assert_eq!(rt; names.len(), 1);
     Ok(())
 }
@@ -41,25 +46,17 @@ fn a_base_has_1_to_100_bytes(rt: HostRuntime) -> Result<(), Fail> {
 #[test]
 fn a_name_has_at_most_105_bytes(rt: HostRuntime) -> Result<(), Fail> {
     assert!(rt; Name::new(&[b'a'; 105]).is_ok());
-    match Name::new(&[b'a'; 106]) {
-        Ok(_) => Err(Fail::new("106 bytes are no name")),
-        Err(refusal) => {
-            assert_eq!(rt; refusal.number(), 7);
-            Ok(())
-        },
-    }
+    assert_eq!(rt; Name::new(&[b'a'; 106]).err().map(Refusal::number), Some(7));
+    Ok(())
 }
 
 #[test]
 fn a_new_name_needs_a_free_record(rt: HostRuntime) -> Result<(), Fail> {
     let mut names = resolver(&rt, 1)?;
     let a = name(b"a")?;
-    assert_eq!(rt; refusal_of(&mut names, &a), 0);
-    assert_eq!(rt; refusal_of(&mut names, &a), 10);
-    let Some(row) = names.record_at(0) else {
-        return Err(Fail::new("a is on record"));
-    };
-    assert_eq!(rt; row.value, 0);
+    assert_eq!(rt; refusal_of(&mut names, &a, &NOTHING), None);
+    assert_eq!(rt; refusal_of(&mut names, &a, &NOTHING), Some(10));
+    assert_eq!(rt; names.record_at(0).map(|row| row.value), Some(0));
     assert!(rt; names.record_at(1).is_none());
     Ok(())
 }
@@ -82,21 +79,13 @@ fn both_limits(rt: HostRuntime) -> Result<(), Fail> {
     let mut names = resolver(&rt, 2)?;
     let a = name(b"a")?;
     assert_eq!(rt; names.reserve(&a), Ok(()));
-    let mut last = 0;
+    let mut last = None;
     for _ in 0..5903 {
-        last = match names.resolve(&a, &Everything) {
-            Ok(_) => 0,
-            Err(refusal) => refusal.number(),
-        };
+        last = refusal_of(&mut names, &a, &EVERYTHING);
     }
-    assert_eq!(rt; last, 12);
-    match names.resolve(&a, &Everything) {
-        Ok(_) => Err(Fail::new("every candidate is vetoed")),
-        Err(refusal) => {
-            assert_eq!(rt; refusal.number(), 11);
-            Ok(())
-        },
-    }
+    assert_eq!(rt; last, Some(12));
+    assert_eq!(rt; refusal_of(&mut names, &a, &EVERYTHING), Some(11));
+    Ok(())
 }
 
 #[test]

@@ -6,6 +6,7 @@ ghost use Rattle.chunk_faults.specs.Numbers.{is_module, is_scope, is_symbol, str
 use chunk_tables::chunk::{Chunk, Module};
 use keys::refs::SymbolRef;
 
+// One comparison each: a function over any table would ask for the table in place of its owner.
 pub fn is_module(chunk: &Chunk, number: u32) -> bool
     ensures { result ≡ is_module (chunk_of chunk.now) number }
 {
@@ -28,10 +29,7 @@ pub fn is_symbol(module: &Module, number: u32) -> bool
 pub fn strays(module: &Module, number: Option<u32>) -> bool
     ensures { result ≡ strays (module_of «module».now) number }
 {
-    match number {
-        Some(symbol) => !is_symbol(module, symbol),
-        None => false,
-    }
+    number.is_some_and(|symbol| !is_symbol(module, symbol))
 }
 
 // Whether the pair names no symbol of the chunk.
@@ -45,8 +43,5 @@ pub fn is_missing(chunk: &Chunk, symbol: SymbolRef) -> bool
 pub fn dangles(chunk: &Chunk, symbol: Option<SymbolRef>) -> bool
     ensures { result ≡ dangles (chunk_of chunk.now) symbol }
 {
-    match symbol {
-        Some(symbol) => is_missing(chunk, symbol),
-        None => false,
-    }
+    symbol.is_some_and(|symbol| is_missing(chunk, symbol))
 }

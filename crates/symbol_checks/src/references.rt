@@ -7,96 +7,79 @@ ghost use Rattle.chunk_faults.specs.ReferenceRows.{reference_strays, misses_targ
 ghost use Rattle.chunk_faults.specs.Tests.{least, told};
 ghost use Rattle.chunk_faults.specs.Verdict.{reference_rows};
 
+use crate::ModuleCheck;
 use crate::symbols::is_elsewhere;
-use binding_index::indexed::IndexedModule;
 use chunk_tables::chunk::{Chunk, Module};
 use chunk_tables::parts::{Reference, Symbol};
 use names::refusal::Refusal;
 use row_checks::numbers::{dangles, is_scope, is_symbol};
-use row_checks::rows::{ModuleCheck, RowCheck, check_each_module, check_rows};
+use row_checks::rows::{check_rows, refuse_if};
 use std::alloc::Global;
 
-fn reference_strays(chunk: &Chunk, module: &Module, reference: &Reference) -> bool
-    ensures { result ≡ reference_strays (chunk_of chunk.now) (module_of «module».now) reference.now }
-{
-    !is_scope(module, reference.scope)
-        || !is_symbol(module, reference.target)
-        || dangles(chunk, reference.resolved)
-}
-
-// Whether the target is a facade, or not the nearest binding of its name.
-fn misses_target(indexed: &IndexedModule<'_>, reference: &Reference, target: &Symbol) -> bool
-    ensures { result ≡ misses_target (module_of indexed.now.module.now) reference.now (symbol_of target.now) }
-{
-    if !target.bound {
-        return true;
+impl<'c, 'm> ModuleCheck<'c, 'm> {
+    fn reference_strays(&self, reference: &Reference) -> bool
+        ensures { result ≡ reference_strays (chunk_of self.now.chunk.now) (module_of self.now.indexed.module.now) reference.now }
+    {
+        let module = self.indexed.module;
+        !is_scope(module, reference.scope)
+            || !is_symbol(module, reference.target)
+            || dangles(self.chunk, reference.resolved)
     }
-    match indexed.nearest_binding(reference.scope, target.name.as_slice()) {
-        Some(nearest) => reference.target as usize != nearest,
-        None => true,
+
+    // Whether the target is a facade, or not the nearest binding of its name.
+    fn misses_target(&self, reference: &Reference, target: &Symbol) -> bool
+        ensures { result ≡ misses_target (module_of self.now.indexed.module.now) reference.now (symbol_of target.now) }
+    {
+        !target.bound
+            || self
+                .indexed
+                .nearest_binding(reference.scope, &target.name)
+                .is_none_or(|nearest| reference.target as usize != nearest)
     }
-}
 
-fn is_stray_member(module: &Module, reference: &Reference, target: &Symbol) -> bool
-    ensures { result ≡ stray_member (module_of «module».now) reference.now (symbol_of target.now) }
-{
-    if reference.resolved.is_none() {
-        return false;
+    fn is_stray_member(&self, reference: &Reference, target: &Symbol) -> bool
+        ensures { result ≡ stray_member (module_of self.now.indexed.module.now) reference.now (symbol_of target.now) }
+    {
+        let module = self.indexed.module;
+        reference.resolved.is_some()
+            && (!module.is_root_named_import(reference.target as usize)
+                || module.wrapped && !is_elsewhere(target))
     }
-    !module.is_root_named_import(reference.target as usize)
-        || module.wrapped && !is_elsewhere(target)
-}
 
-fn is_bad_reference(indexed: &IndexedModule<'_>, reference: &Reference) -> bool
-    ensures { result ≡ bad_reference (module_of indexed.now.module.now) reference.now }
-{
-    let module = indexed.module;
-    let Some(target) = module.symbol_at(reference.target as usize) else {
-        return false;
-    };
-    misses_target(indexed, reference, target) || is_stray_member(module, reference, target)
-}
-
-#[derive(Drop)]
-struct ReferenceCheck<'c, 'm> {
-    chunk: &'c Chunk,
-    indexed: IndexedModule<'m>,
-}
-
-impl<'c, 'm> RowCheck<Reference> for ReferenceCheck<'c, 'm> {
-    ghost tests = { λ k _ r. reference_tests (chunk_of k.chunk.now) (module_of k.indexed.module.now) r };
-
-    fn check(&self, _number: usize, reference: &Reference) -> Result<(), Refusal> {
-        if reference_strays(self.chunk, self.indexed.module, reference) {
-            return Err(Refusal::OutOfRange);
-        }
-        if is_bad_reference(&self.indexed, reference) {
-            return Err(Refusal::BadReference);
-        }
-        Ok(())
-    }
-}
-
-#[derive(Drop)]
-struct ReferenceChecks<'c> {
-    heap: Global,
-    chunk: &'c Chunk,
-}
-
-impl<'c> ModuleCheck for ReferenceChecks<'c> {
-    ghost records = { λ k m. reference_rows (chunk_of k.chunk.now) (module_of m) };
-
-    fn check_module(&self, module: &Module) -> Result<(), Refusal> {
-        let by = ReferenceCheck {
-            chunk: self.chunk,
-            indexed: IndexedModule::new(self.heap, module),
+    fn is_bad_reference(&self, reference: &Reference) -> bool
+        ensures { result ≡ bad_reference (module_of self.now.indexed.module.now) reference.now }
+    {
+        // Not `is_some_and`: a closure over the index gets no contract.
+        let Some(target) = self.indexed.module.symbol_at(reference.target as usize) else {
+            return false;
         };
-        check_rows(module.references.as_slice(), &by)
+        self.misses_target(reference, target) || self.is_stray_member(reference, target)
     }
+
+    // Refuses the reference with the smallest number of a test that holds.
+    fn check_reference(&self, reference: &Reference) -> Result<(), Refusal>
+        ensures { told result ≡ least (reference_tests (chunk_of self.now.chunk.now) (module_of self.now.indexed.module.now) reference.now) }
+    {
+        refuse_if(self.reference_strays(reference), Refusal::OutOfRange)?;
+        refuse_if(self.is_bad_reference(reference), Refusal::BadReference)
+    }
+}
+
+fn check_module_references(heap: Global, chunk: &Chunk, module: &Module) -> Result<(), Refusal>
+    ensures { told result ≡ first_found least (reference_rows (chunk_of chunk.now) (module_of «module».now)) }
+{
+    let check = ModuleCheck::new(heap, chunk, module);
+    check_rows(
+        &module.references,
+        |_, reference| check.check_reference(reference),
+    )
 }
 
 pub fn check_references(heap: Global, chunk: &Chunk) -> Result<(), Refusal>
     ensures { told result ≡ first_found least (flat_map (reference_rows (chunk_of chunk.now)) (chunk_of chunk.now).modules) }
 {
-    check_each_module(chunk.modules.as_slice(), &ReferenceChecks { heap, chunk })
+    check_rows(
+        &chunk.modules,
+        |_, module| check_module_references(heap, chunk, module),
+    )
 }

@@ -1,22 +1,24 @@
 // The check of the limits, and of the memory.
-ghost use Rattle.std.specs.Prelude.{◌≡◌, ◌+◌, ◌-◌, ◌^◌, min, ◌||◌, length};
-ghost use Rattle.chunk_tables.specs.View.{chunk_of, module_of};
+ghost use Rattle.std.specs.Prelude.{◌≡◌, ℕ, ◌-◌, ◌^◌, min, ◌||◌, length};
+ghost use Rattle.std.specs.Borrow.{Bor};
+ghost use Rattle.chunk_tables.specs.View.{chunk_of};
+ghost use Rattle.chunk_tables.specs.declared.chunk.Module.{Module as ModuleRow};
 ghost use Rattle.table_checks.specs.Counted.{Counted};
-ghost use Rattle.chunk_faults.specs.Limits.{over_limits, under_sizes, too_large, too_small, limit_tests};
+ghost use Rattle.chunk_faults.specs.Limits.{in_all, over_limits, under_sizes, too_large, too_small, limit_tests};
 ghost use Rattle.chunk_faults.specs.Tests.{least, told};
 
 use chunk_faults::sizes::MemorySizes;
 use chunk_tables::chunk::{Chunk, Module};
 use chunk_tables::links::MOST_SYMBOLS;
+use names::limits::MOST_RECORDS;
 use names::refusal::Refusal;
+use row_checks::rows::refuse_if;
 
 const MOST_MODULES: usize = 256;
 
 const MOST_SCOPES: usize = 16384;
 
 const MOST_REFERENCES: usize = 32768;
-
-const MOST_RECORDS: u32 = 4096;
 
 // How many rows all modules have together; a number past what a machine counts stays at the last one.
 #[derive(Clone, Copy)]
@@ -26,65 +28,52 @@ pub struct Totals {
     pub references: usize,
 }
 
+// How many of something all modules have together, or the last number that a machine counts to.
+fn total_of<F: Fn(&Module) -> usize>(modules: &[Module], count: F) -> usize
+    requires { F.IsAlwaysCallable count }
+    ensures { (counts : ModuleRow → ℕ) → ((m : Bor ModuleRow) (n : ℕ) → F.post count m n → n ≡ counts m.now) → result ≡ min (in_all counts modules.now) (2 ^ 64 - 1) }
+{
+    modules.iter().fold(
+        0,
+        |total: usize, module| total.saturating_add(count(module)),
+    )
+}
+
 impl Totals {
-    fn none() -> Totals
-        ensures { (result.scopes ≡ 0) × (result.symbols ≡ 0) × (result.references ≡ 0) }
-    {
-        Totals {
-            scopes: 0,
-            symbols: 0,
-            references: 0,
-        }
-    }
-
-    fn add(&mut self, module: &Module)
-        ensures scopes { self.new.scopes ≡ min (self.old.scopes + length (module_of «module».now).parents) (2 ^ 64 - 1) }
-        ensures symbols { self.new.symbols ≡ min (self.old.symbols + length (module_of «module».now).symbols) (2 ^ 64 - 1) }
-        ensures references { self.new.references ≡ min (self.old.references + length (module_of «module».now).references) (2 ^ 64 - 1) }
-    {
-        self.scopes = self.scopes.saturating_add(module.scopes.len());
-        self.symbols = self.symbols.saturating_add(module.symbols.len());
-        self.references = self.references.saturating_add(module.references.len());
-    }
-
     // What the modules of a chunk have.
     pub fn of(chunk: &Chunk) -> Totals
         ensures { Counted (chunk_of chunk.now).modules result }
     {
-        let mut totals = Totals::none();
         let modules = chunk.modules.as_slice();
-        for module in modules {
-            totals.add(module);
+        Totals {
+            scopes: total_of(modules, |module| module.scopes.len()),
+            symbols: total_of(modules, |module| module.symbols.len()),
+            references: total_of(modules, |module| module.references.len()),
         }
-        totals
     }
-}
 
-fn is_over_limits(modules: usize, totals: &Totals, records: u32) -> bool
-    ensures { result ≡ over_limits modules totals.now.scopes totals.now.symbols totals.now.references records }
-{
-    modules > MOST_MODULES
-        || totals.scopes > MOST_SCOPES
-        || totals.symbols > MOST_SYMBOLS
-        || totals.references > MOST_REFERENCES
-        || records == 0
-        || records > MOST_RECORDS
-}
+    // Whether the chunk that has them is over the limits.
+    fn is_over_limits(&self, chunk: &Chunk) -> bool
+        ensures { result ≡ over_limits (length (chunk_of chunk.now).modules) self.now.scopes self.now.symbols self.now.references (chunk_of chunk.now).records }
+    {
+        chunk.modules.len() > MOST_MODULES
+            || self.scopes > MOST_SCOPES
+            || self.symbols > MOST_SYMBOLS
+            || self.references > MOST_REFERENCES
+            || chunk.records == 0
+            || chunk.records > MOST_RECORDS
+    }
 
-fn is_under_sizes(
-    sizes: &MemorySizes,
-    records: u32,
-    symbols: usize,
-    modules: usize,
-    others: usize,
-) -> bool
-    ensures { result ≡ under_sizes sizes.now records symbols modules others }
-{
-    sizes.records < records as usize
-        || sizes.names < symbols
-        || sizes.inner < symbols
-        || sizes.marks < modules
-        || sizes.helpers < others
+    // Whether the memory is too small for it.
+    fn is_over_sizes(&self, chunk: &Chunk, sizes: &MemorySizes) -> bool
+        ensures { result ≡ under_sizes sizes.now (chunk_of chunk.now).records self.now.symbols (length (chunk_of chunk.now).modules) (length (chunk_of chunk.now).others) }
+    {
+        sizes.records < chunk.records as usize
+            || sizes.names < self.symbols
+            || sizes.inner < self.symbols
+            || sizes.marks < chunk.modules.len()
+            || sizes.helpers < chunk.other_chunks.len()
+    }
 }
 
 // Whether the chunk is over the limits, or the memory too small for it.
@@ -92,17 +81,11 @@ fn is_outside(chunk: &Chunk, sizes: &MemorySizes) -> bool
     ensures { result ≡ (too_large (chunk_of chunk.now) || too_small (chunk_of chunk.now) sizes.now) }
 {
     let totals = Totals::of(chunk);
-    let modules = chunk.modules.len();
-    let others = chunk.other_chunks.len();
-    is_over_limits(modules, &totals, chunk.records)
-        || is_under_sizes(sizes, chunk.records, totals.symbols, modules, others)
+    totals.is_over_limits(chunk) || totals.is_over_sizes(chunk, sizes)
 }
 
 pub fn check_limits(chunk: &Chunk, sizes: &MemorySizes) -> Result<(), Refusal>
     ensures { told result ≡ least (limit_tests (chunk_of chunk.now) sizes.now) }
 {
-    if is_outside(chunk, sizes) {
-        return Err(Refusal::OutsideLimit);
-    }
-    Ok(())
+    refuse_if(is_outside(chunk, sizes), Refusal::OutsideLimit)
 }

@@ -11,7 +11,7 @@ use chunk_tables::chunk::{Chunk, Module};
 use chunk_tables::parts::Scope;
 use names::refusal::Refusal;
 use row_checks::numbers::is_scope;
-use row_checks::rows::{ModuleCheck, RowCheck, check_each_module, check_rows};
+use row_checks::rows::{check_rows, refuse_if};
 
 fn parent_strays(module: &Module, number: usize, parent: u32) -> bool
     ensures { result ≡ parent_strays (module_of «module».now) number parent }
@@ -31,41 +31,32 @@ fn is_misplaced(module: &Module, number: usize) -> bool
     number != 0 && !module.kind.is_normal()
 }
 
-#[derive(Drop)]
-struct ScopeCheck<'m> {
-    module: &'m Module,
+// Refuses the scope with the smallest number of a test that holds.
+fn check_scope(module: &Module, number: usize, scope: &Scope) -> Result<(), Refusal>
+    ensures { told result ≡ least (scope_tests (module_of «module».now) number (parent_of scope.now)) }
+{
+    refuse_if(
+        parent_strays(module, number, scope.parent),
+        Refusal::OutOfRange,
+    )?;
+    refuse_if(
+        parent_not_smaller(number, scope.parent),
+        Refusal::OutOfOrder,
+    )?;
+    refuse_if(is_misplaced(module, number), Refusal::Misplaced)
 }
 
-impl<'m> RowCheck<Scope> for ScopeCheck<'m> {
-    ghost tests = { λ k i s. scope_tests (module_of k.module.now) i (parent_of s) };
-
-    fn check(&self, number: usize, scope: &Scope) -> Result<(), Refusal> {
-        if parent_strays(self.module, number, scope.parent) {
-            return Err(Refusal::OutOfRange);
-        }
-        if parent_not_smaller(number, scope.parent) {
-            return Err(Refusal::OutOfOrder);
-        }
-        if is_misplaced(self.module, number) {
-            return Err(Refusal::Misplaced);
-        }
-        Ok(())
-    }
-}
-
-#[derive(Drop)]
-struct ScopeChecks;
-
-impl ModuleCheck for ScopeChecks {
-    ghost records = { λ _ m. scope_rows (module_of m) };
-
-    fn check_module(&self, module: &Module) -> Result<(), Refusal> {
-        check_rows(module.scopes.as_slice(), &ScopeCheck { module })
-    }
+fn check_module_scopes(module: &Module) -> Result<(), Refusal>
+    ensures { told result ≡ first_found least (scope_rows (module_of «module».now)) }
+{
+    check_rows(
+        &module.scopes,
+        |number, scope| check_scope(module, number, scope),
+    )
 }
 
 pub fn check_scopes(chunk: &Chunk) -> Result<(), Refusal>
     ensures { told result ≡ first_found least (flat_map scope_rows (chunk_of chunk.now).modules) }
 {
-    check_each_module(chunk.modules.as_slice(), &ScopeChecks)
+    check_rows(&chunk.modules, |_, module| check_module_scopes(module))
 }

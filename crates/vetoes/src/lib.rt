@@ -26,6 +26,7 @@ impl Veto {
     }
 }
 
+// A veto on everything is a flag of its own, since it leaves the list as it is.
 #[derive(Drop)]
 pub struct Vetoes {
     all: bool,
@@ -36,16 +37,7 @@ impl Policy for Vetoes {
     ghost vetoes = { λ p c bare. p.all || barred p.listed.items c bare };
 
     fn vetoed(&self, candidate: &Name, bare: bool) -> bool {
-        if self.all {
-            return true;
-        }
-        let listed = self.listed.as_slice();
-        for veto in listed {
-            if veto.bars(candidate, bare) {
-                return true;
-            }
-        }
-        false
+        self.all || self.listed.iter().any(|veto| veto.bars(candidate, bare))
     }
 }
 
@@ -65,10 +57,8 @@ impl Vetoes {
         ensures listed { self.new.listed.items ≡ (if is_ok result then self.old.listed.items ++ veto ∷ [] else self.old.listed.items) }
         ensures all { self.new.all ≡ self.old.all }
     {
-        match self.listed.push(veto) {
-            Ok(()) => Ok(()),
-            Err(_) => Err(AllocError),
-        }
+        self.listed.push(veto)?;
+        Ok(())
     }
 
     // Every candidate is vetoed.

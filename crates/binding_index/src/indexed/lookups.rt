@@ -34,7 +34,8 @@ impl<'a> IndexedModule<'a> {
         IndexedModule { module, index }
     }
 
-    // The nearest binding of the name, from the scope outward, the root's too.
+    // The nearest binding of the name, from the scope outward, the root's too. What it shares with a module's own is
+    // `nearest_among`; a method of the trait would have to be told the scopes.
     pub fn nearest_binding(&self, scope: u32, name: &[u8]) -> Option<usize>
         ensures { result ≡ nearest (module_of self.now.module.now) scope name.now }
     {

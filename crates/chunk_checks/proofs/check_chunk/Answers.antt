@@ -2,12 +2,8 @@ use Rattle.chunk_tables.specs.View.{chunk_of}
 use Rattle.chunk_faults.proofs.Granted.{judges, grants}
 use Rattle.chunk_checks.proofs.check_chunk.Goals as goal
 
-pub returns : goal.returns
-returns c =
-    let t = chunk_of c.args.chunk.now in
-    let z = c.args.sizes.now in
-    record {
-      follows_the_rules = c.check_tables.ensures;
-      refuses_the_least_fault = judges t z c.check_tables.result c.check_tables.ensures;
-      grants_sound_tables = grants t z c.check_tables.result c.check_tables.ensures;
-    }
+pub returns-clause-refuses_the_least_fault : goal.returns-clause-refuses_the_least_fault
+returns-clause-refuses_the_least_fault c = judges (chunk_of c.args.chunk.now) c.args.sizes.now _ c.check_tables.ensures
+
+pub returns-clause-grants_sound_tables : goal.returns-clause-grants_sound_tables
+returns-clause-grants_sound_tables c = grants (chunk_of c.args.chunk.now) c.args.sizes.now _ c.check_tables.ensures

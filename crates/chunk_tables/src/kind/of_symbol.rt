@@ -1,7 +1,6 @@
 // The kind of a symbol's binding.
-ghost use Rattle.std.specs.Prelude.{◌≡◌, false, nat_eq};
+ghost use Rattle.std.specs.Prelude.{◌≡◌};
 ghost use Rattle.chunk_tables.specs.Kinds.{is_normal, facade, source_facade, synthesized, kind_of};
-ghost use Rattle.chunk_tables.specs.Lists.{maybe};
 ghost use Rattle.chunk_tables.specs.View.{chunk_of, module_of};
 
 use super::RootBindingKind;
@@ -14,20 +13,7 @@ impl ModuleKind {
     pub fn is_normal(&self) -> bool
         ensures { result ≡ is_normal self.now }
     {
-        match self {
-            ModuleKind::Normal => true,
-            ModuleKind::External { .. } => false,
-        }
-    }
-}
-
-// Whether the number is the one that is given, if one is.
-fn is_number(given: Option<u32>, number: usize) -> bool
-    ensures { result ≡ maybe given false (nat_eq number) }
-{
-    match given {
-        Some(own) => number == own as usize,
-        None => false,
+        matches!(self, ModuleKind::Normal)
     }
 }
 
@@ -36,18 +22,18 @@ impl Module {
     pub fn is_facade_symbol(&self, symbol: usize) -> bool
         ensures { result ≡ facade (module_of self.now) symbol }
     {
-        match self.symbol_at(symbol) {
-            Some(row) => !row.bound,
-            None => false,
-        }
+        self.symbol_at(symbol).is_some_and(|row| !row.bound)
     }
 
     // Whether the symbol, if it is a facade, has a name of the source.
     fn is_source_facade(&self, symbol: usize) -> bool
         ensures { result ≡ source_facade (module_of self.now) symbol }
     {
+        let is_default = self
+            .default_export
+            .is_some_and(|own| symbol == own as usize);
         is_listed(self.named_imports.as_slice(), symbol)
-            || is_number(self.default_export, symbol)
+            || is_default
             || is_listed(self.shims.as_slice(), symbol)
     }
 }
@@ -57,16 +43,13 @@ impl Chunk {
     fn is_synthesized(&self, symbol: SymbolRef) -> bool
         ensures { result ≡ synthesized (chunk_of self.now) symbol }
     {
-        if is_number(self.runtime, symbol.owner as usize) {
-            return true;
-        }
-        let Some(module) = self.module_at(symbol.owner as usize) else {
-            return false;
-        };
         let number = symbol.symbol as usize;
-        module.kind.is_normal()
-            && module.is_facade_symbol(number)
-            && !module.is_source_facade(number)
+        self.runtime == Some(symbol.owner)
+            || self.module_at(symbol.owner as usize).is_some_and(|module| {
+                module.kind.is_normal()
+                    && module.is_facade_symbol(number)
+                    && !module.is_source_facade(number)
+            })
     }
 
     // The kind of the symbol's canonical one.

@@ -1,24 +1,20 @@
 // How the cursor steps.
-ghost use Rattle.std.specs.Prelude.{◌≡◌, ℕ, map, length};
-ghost use Rattle.chunk_tables.specs.Cursor.{to_come, Steps};
+ghost use Rattle.std.specs.Prelude.{◌≡◌, map};
+ghost use Rattle.chunk_tables.specs.Cursor.{to_come};
 ghost use Rattle.chunk_tables.specs.Scopes.{ancestors, parent_in, inner, enclosing, inner_enclosing};
 ghost use Rattle.chunk_tables.specs.View.{parent_of, module_of};
-ghost use Rattle.std.specs.Iterator.{at_most};
+ghost use Rattle.std.specs.Iterator.{YieldsFirst, item_count};
 
 use super::Ancestors;
 use crate::chunk::Module;
 use crate::parts::Scope;
-use crate::rows::row_at;
 
 // The parent of a scope; a number that is not smaller is no parent.
 fn parent_in(scopes: &[Scope], scope: u32) -> Option<u32>
     ensures { result ≡ parent_in (map parent_of scopes.now) scope }
 {
-    let row = row_at(scopes, scope as usize)?;
-    if row.parent < scope {
-        return Some(row.parent);
-    }
-    None
+    let row = scopes.get(scope as usize)?;
+    (row.parent < scope).then_some(row.parent)
 }
 
 impl<'a> Ancestors<'a> {
@@ -32,35 +28,25 @@ impl<'a> Ancestors<'a> {
             at: Some(scope),
         }
     }
-
-    // The scope that the cursor stands at, from which it goes on to the parent.
-    pub fn step(&mut self) -> Option<u32>
-        ensures { Steps self.old result self.new }
-    {
-        let Some(scope) = self.at else {
-            return None;
-        };
-        if scope == 0 {
-            self.at = None;
-            if self.root {
-                return Some(0);
-            }
-            return None;
-        }
-        self.at = parent_in(self.scopes, scope);
-        Some(scope)
-    }
 }
 
 impl<'a> Iterator for Ancestors<'a> {
     type Item = u32;
 
-    ghost next_gives = { λ a r b. Steps a r b };
+    ghost next_gives = { YieldsFirst to_come };
 
-    ghost remaining = { λ a. at_most (length (to_come a)) };
+    ghost remaining = { item_count to_come };
 
+    // The scope that the cursor stands at, from which it goes on to the parent.
+    #[tactic(auto, using(crate::proofs::Walks::onward))]
     fn next(&mut self) -> Option<u32> {
-        self.step()
+        let scope = self.at?;
+        if scope == 0 {
+            self.at = None;
+            return self.root.then_some(0);
+        }
+        self.at = parent_in(self.scopes, scope);
+        Some(scope)
     }
 }
 

@@ -4,38 +4,28 @@ ghost use Rattle.std.specs.Option.{option_map};
 ghost use Rattle.std.specs.List.{slice_get};
 ghost use Rattle.names.specs.Refusals.{number_of};
 ghost use Rattle.names.specs.Spelt.{spelt};
-ghost use Rattle.keyed_table.specs.Laws.{assign};
+ghost use Rattle.keyed_table.specs.Model.{put};
 ghost use Rattle.keys.specs.Names.{name_alike};
 ghost use Rattle.keyed_table.specs.Links.{AllBlank};
-ghost use Rattle.keyed_table.specs.View.{memory};
 ghost use Rattle.conflict_resolver.specs.Answers.{settled};
 ghost use Rattle.conflict_resolver.specs.Held.{held, room, rows, Ascending};
 ghost use Rattle.conflict_resolver.specs.Rows.{record_of};
 ghost use Rattle.conflict_resolver.specs.Records.{counter_of, raised, recording};
-ghost use Rattle.conflict_resolver.specs.Rules.{is_base, reserved};
+ghost use Rattle.conflict_resolver.specs.Rules.{reserved};
 
 use super::{ConflictResolver, NameRecord, RecordSlot};
 use keyed_table::table::Table;
-use keyed_table::table::methods::laws;
 use names::name::Name;
 use names::refusal::Refusal;
 
-// A base, and a name that is reserved, has 1 to 100 bytes.
-const LONGEST_BASE: usize = 100;
-
-// Whether a search can start from the name.
-pub(crate) fn is_base(name: &Name) -> bool
-    ensures { result ≡ is_base (spelt name.now) }
-{
-    name.len() > 0 && name.len() <= LONGEST_BASE
-}
-
+// Each change says beside the records that the room stays: it is a fact about two states, which no type can hold. A free
+// record is asked for only where one is taken, since a full memory is a memory too.
 impl ConflictResolver {
     // With nothing on record, over the slots, each of which is emptied.
     pub fn new(slots: Vec<RecordSlot>) -> ConflictResolver
         ensures empty { held result ≡ [] }
         ensures room { room result ≡ vec_len slots }
-        ensures blank { AllBlank (memory result.used) }
+        ensures blank { AllBlank result.used.memory }
     {
         ConflictResolver {
             used: Table::new(slots),
@@ -60,7 +50,6 @@ impl ConflictResolver {
     pub(crate) fn counter(&self, name: &Name) -> Option<u16>
         ensures { result ≡ counter_of (held self.now) (spelt name.now) }
     {
-        laws::<Name, u16>();
         self.used.find(name)
     }
 
@@ -73,10 +62,9 @@ impl ConflictResolver {
     // Stores the counter of a name: in its record, or in a new one.
     fn store(&mut self, name: &Name, counter: u16)
         requires { is_some (counter_of (held self.old) (spelt name.now)) || nat_lt (length (held self.old)) (room self.old) ≡ true }
-        ensures rows { rows self.new ≡ assign name_alike (rows self.old) name.now counter }
+        ensures rows { rows self.new ≡ put name_alike (rows self.old) name.now counter }
         ensures room { room self.new ≡ room self.old }
     {
-        laws::<Name, u16>();
         let _ = self.used.insert(*name, counter);
     }
 
@@ -112,7 +100,7 @@ impl ConflictResolver {
         ensures rules { settled result (held self.new) ≡ reserved (room self.old) (held self.old) (spelt name.now) }
         ensures room { room self.new ≡ room self.old }
     {
-        if !is_base(name) {
+        if !name.is_base() {
             return Err(Refusal::BadName);
         }
         if self.contains(name) {
@@ -134,7 +122,7 @@ impl ConflictResolver {
 
     // The memory, as it is.
     pub fn into_slots(self) -> Vec<RecordSlot>
-        ensures { result.items ≡ memory self.used }
+        ensures { result.items ≡ self.used.memory }
     {
         let ConflictResolver { used } = self;
         used.into_slots()

@@ -1,21 +1,19 @@
 // The search.
-ghost use Rattle.std.specs.Prelude.{◌≡◌, ℕ, ◌<◌, ◌≤◌, true, length};
+ghost use Rattle.std.specs.Prelude.{◌≡◌, ℕ, ◌<◌, ◌≤◌, true, length, ◌==◌};
+ghost use Rattle.names.specs.Bases.{is_base};
 ghost use Rattle.names.specs.Forms.{Suffix};
 ghost use Rattle.names.specs.Spelt.{spelt};
 ghost use Rattle.conflict_resolver.specs.Answers.{looked, answered, Going};
 ghost use Rattle.conflict_resolver.specs.Held.{held, room};
 ghost use Rattle.conflict_resolver.specs.Laws.{Sound, Bounded};
 ghost use Rattle.conflict_resolver.specs.Records.{counter_of};
-ghost use Rattle.conflict_resolver.specs.Rules.{next, follow, sight, is_base, run, searched};
+ghost use Rattle.conflict_resolver.specs.Rules.{next, follow, sight, run, searched};
 
 use super::ConflictResolver;
-use super::records::is_base;
 use crate::policy::Policy;
+use names::limits::HIGHEST_NUMBER;
 use names::name::Name;
 use names::refusal::Refusal;
-
-// No counter and no number behind a base passes this.
-const HIGHEST_NUMBER: u16 = 9999;
 
 // A search that would take more probes is too long.
 const MOST_PROBES: u16 = 4096;
@@ -27,41 +25,36 @@ pub struct Resolved {
     pub probes: u16,
 }
 
-// What a look at a candidate comes to.
-#[derive(Clone, Copy)]
-enum Look {
-    // It is on record or vetoed: the search goes on at this number.
-    Next(u16),
-    // It was free, and is on record now.
-    Free,
-    // A number past the highest would be needed.
-    Over,
-}
-
 impl ConflictResolver {
-    // Looks at the candidate of number k (the base has number 0), and records it where it is free.
-    fn look<P: Policy>(&mut self, candidate: &Name, k: u16, bare: bool, policy: &P) -> Look
+    // Looks at the candidate of number k (the base has number 0). Where it is free it is recorded, and there is no number
+    // to go on at.
+    fn look<P: Policy>(
+        &mut self,
+        candidate: &Name,
+        k: u16,
+        policy: &P,
+    ) -> Result<Option<u16>, Refusal>
         requires free { length (held self.old) < room self.old }
         requires number { k ≤ 9999 }
-        ensures follows { (p : ℕ) → looked result (held self.new) (spelt candidate.now) p ≡ follow (held self.old) (spelt candidate.now) k p (sight (counter_of (held self.old) (spelt candidate.now)) (P.vetoes policy.now (spelt candidate.now) bare)) }
+        ensures follows { (p : ℕ) → looked result (held self.new) (spelt candidate.now) p ≡ follow (held self.old) (spelt candidate.now) k p (sight (counter_of (held self.old) (spelt candidate.now)) (P.vetoes policy.now (spelt candidate.now) (k == 0))) }
         ensures going { Going result self.new }
         ensures room { room self.new ≡ room self.old }
     {
         if let Some(counter) = self.counter(candidate) {
             if counter >= HIGHEST_NUMBER {
-                return Look::Over;
+                return Err(Refusal::CounterLimit);
             }
             self.raise(candidate, counter);
-            return Look::Next(counter + 1);
+            return Ok(Some(counter + 1));
         }
-        if policy.vetoed(candidate, bare) {
+        if policy.vetoed(candidate, k == 0) {
             if k >= HIGHEST_NUMBER {
-                return Look::Over;
+                return Err(Refusal::CounterLimit);
             }
-            return Look::Next(k + 1);
+            return Ok(Some(k + 1));
         }
         self.put_on_record(candidate);
-        Look::Free
+        Ok(None)
     }
 
     // Probes the numbered forms of the base from number `first` on.
@@ -78,21 +71,18 @@ impl ConflictResolver {
         ensures room { room self.new ≡ room self.old }
     {
         let mut conflict_index = first;
-        let mut probes: u16 = 0;
-        while probes < MOST_PROBES {
-            probes += 1;
+        for probes in 1..=MOST_PROBES {
             let Some(candidate) = base.numbered(conflict_index) else {
                 unreachable()
             };
-            match self.look(&candidate, conflict_index, false, policy) {
-                Look::Next(k) => conflict_index = k,
-                Look::Free => {
+            match self.look(&candidate, conflict_index, policy)? {
+                Some(k) => conflict_index = k,
+                None => {
                     return Ok(Resolved {
                         name: candidate,
                         probes,
                     });
                 }
-                Look::Over => return Err(Refusal::CounterLimit),
             }
         }
         Err(Refusal::SearchTooLong)
@@ -105,19 +95,18 @@ impl ConflictResolver {
         ensures probes_are_bounded { Bounded (P.vetoes policy.now) (spelt base.now) (held self.old) (answered result (held self.new)) }
         ensures room { room self.new ≡ room self.old }
     {
-        if !is_base(base) {
+        if !base.is_base() {
             return Err(Refusal::BadName);
         }
         if self.free() == 0 {
             return Err(Refusal::NoFreeRecord);
         }
-        match self.look(base, 0, true, policy) {
-            Look::Next(first) => self.search_forms(base, first, policy),
-            Look::Free => Ok(Resolved {
+        match self.look(base, 0, policy)? {
+            Some(first) => self.search_forms(base, first, policy),
+            None => Ok(Resolved {
                 name: *base,
                 probes: 0,
             }),
-            Look::Over => Err(Refusal::CounterLimit),
         }
     }
 }

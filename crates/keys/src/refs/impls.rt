@@ -1,6 +1,7 @@
 // The keys' traits.
 ghost use Rattle.std.specs.Prelude.{◌≡◌};
-ghost use Rattle.keys.specs.Refs.{mixed, symbol_alike, symbol_hash, symbol_under, chunk_alike, chunk_hash, chunk_under};
+ghost use Rattle.keys.specs.Refs.{mixed, symbol_hash, symbol_under, chunk_hash, chunk_under};
+ghost use Rattle.keys.specs.Numbers.{symbol_order, chunk_order};
 ghost use Rattle.std.proofs.Common.{rules};
 
 use super::{ChunkIdx, SymbolRef};
@@ -15,15 +16,9 @@ pub(crate) fn mix(h: u32, w: u32) -> u32
 }
 
 impl HashKey for SymbolRef {
-    ghost alike = { symbol_alike };
-
     ghost hashed = { symbol_hash };
 
     ghost tells = { Prim.search rules };
-
-    fn same(&self, other: &SymbolRef) -> bool {
-        self.owner == other.owner && self.symbol == other.symbol
-    }
 
     fn hash(&self) -> u32 {
         mix(mix(0, self.owner), self.symbol)
@@ -33,23 +28,15 @@ impl HashKey for SymbolRef {
 impl OrderedKey for SymbolRef {
     ghost under = { symbol_under };
 
-    ghost order = { Prim.search rules };
+    ghost order = { symbol_order };
 
-    fn below(&self, other: &SymbolRef) -> bool {
-        self.owner < other.owner || self.owner == other.owner && self.symbol < other.symbol
-    }
+    ghost agrees = { Prim.search rules };
 }
 
 impl HashKey for ChunkIdx {
-    ghost alike = { chunk_alike };
-
     ghost hashed = { chunk_hash };
 
     ghost tells = { Prim.search rules };
-
-    fn same(&self, other: &ChunkIdx) -> bool {
-        self.0 == other.0
-    }
 
     fn hash(&self) -> u32 {
         mix(0, self.0)
@@ -59,9 +46,7 @@ impl HashKey for ChunkIdx {
 impl OrderedKey for ChunkIdx {
     ghost under = { chunk_under };
 
-    ghost order = { Prim.search rules };
+    ghost order = { chunk_order };
 
-    fn below(&self, other: &ChunkIdx) -> bool {
-        self.0 < other.0
-    }
+    ghost agrees = { Prim.search rules };
 }

@@ -2,21 +2,21 @@
 ghost use Rattle.std.specs.Prelude.{◌≡◌, not, nat_lt};
 ghost use Rattle.chunk_tables.specs.View.{chunk_of, other_of};
 ghost use Rattle.chunk_faults.specs.ListRows.{not_above, hint_too_long, other_tests};
+ghost use Rattle.chunk_faults.specs.Tests.{least, told};
 
 use super::entries::has_missing;
 use super::members::row_before;
 use chunk_tables::chunk::{Chunk, OtherChunk};
 use keys::ascend::ascends;
 use keys::refs::ChunkIdx;
+use names::limits::LONGEST_BASE;
 use names::refusal::Refusal;
-use row_checks::rows::RowCheck;
+use row_checks::rows::refuse_if;
 
-// How a helper's hint begins; the other chunk's name follows, byte by byte.
+// How a helper's hint begins; the other chunk's name follows, byte by byte. A hint is a base.
 const HINT_PREFIX: &[u8] = b"require_";
 
-const LONGEST_HINT: usize = 100;
-
-// Whether the second number does not stand above the first.
+// Whether the second number does not stand above the first. That keys ascend is told by one check alone.
 fn is_not_above(first: ChunkIdx, second: ChunkIdx) -> bool
     ensures { result ≡ not (nat_lt first.0 second.0) }
 {
@@ -26,36 +26,20 @@ fn is_not_above(first: ChunkIdx, second: ChunkIdx) -> bool
 fn is_out_of_order(chunk: &Chunk, k: usize, other: &OtherChunk) -> bool
     ensures { result ≡ not_above (chunk_of chunk.now) k (other_of other.now) }
 {
-    match row_before(chunk.other_chunks.as_slice(), k) {
-        Some(before) => is_not_above(before.index, other.index),
-        None => false,
-    }
+    row_before(&chunk.other_chunks, k).is_some_and(|before| is_not_above(before.index, other.index))
 }
 
 fn has_long_hint(other: &OtherChunk) -> bool
     ensures { result ≡ hint_too_long (other_of other.now) }
 {
-    HINT_PREFIX.len() + other.name.len() > LONGEST_HINT
+    HINT_PREFIX.len() + other.name.len() > LONGEST_BASE
 }
 
-#[derive(Drop)]
-pub(crate) struct OtherCheck<'c> {
-    pub(crate) chunk: &'c Chunk,
-}
-
-impl<'c> RowCheck<OtherChunk> for OtherCheck<'c> {
-    ghost tests = { λ k i o. other_tests (chunk_of k.chunk.now) i (other_of o) };
-
-    fn check(&self, place: usize, other: &OtherChunk) -> Result<(), Refusal> {
-        if has_missing(self.chunk, other.imports.as_slice()) {
-            return Err(Refusal::OutOfRange);
-        }
-        if is_out_of_order(self.chunk, place, other) {
-            return Err(Refusal::OutOfOrder);
-        }
-        if has_long_hint(other) {
-            return Err(Refusal::BadName);
-        }
-        Ok(())
-    }
+// Refuses the chunk with the smallest number of a test that holds.
+pub(crate) fn check_other(chunk: &Chunk, k: usize, other: &OtherChunk) -> Result<(), Refusal>
+    ensures { told result ≡ least (other_tests (chunk_of chunk.now) k (other_of other.now)) }
+{
+    refuse_if(has_missing(chunk, &other.imports), Refusal::OutOfRange)?;
+    refuse_if(is_out_of_order(chunk, k, other), Refusal::OutOfOrder)?;
+    refuse_if(has_long_hint(other), Refusal::BadName)
 }

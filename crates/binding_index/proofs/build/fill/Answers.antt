@@ -1,7 +1,3 @@
-use Rattle.std.proofs.Common.{map, subst}
-use Rattle.std.proofs.lemmas.List.{take_all}
-use Rattle.chunk_tables.specs.View.{symbol_of}
-use Rattle.binding_index.specs.Indexes.{Finds}
 use Rattle.binding_index.proofs.Turns.{finds_noted, finds_passed}
 use Rattle.binding_index.proofs.build.fill.Goals as goal
 use Rattle.binding_index.proofs.build.fill.Goals.{in-Some+in_ok-note, in_default}
@@ -17,6 +13,3 @@ loop-i-preserved c =
       | in-Some+in_ok-note w ↦ finds_noted ys i y c.loop-i-test.true c.index-symbols-i.is t u c.loop-i.invariant w.in-Some.key w.in-Some.ensures w.note.new.table w.table-is w.in_ok-note.ensures
       | in_default w ↦ finds_passed ys i y c.loop-i-test.true c.index-symbols-i.is t u c.loop-i.invariant w.in_default.ensures w.table-is
     ]
-
-pub returns : goal.returns
-returns c = subst (λ ys. Finds (map symbol_of ys) c.loop-i.table) (take_all c.loop-i.i c.args.symbols.now c.loop-i-test.false) c.loop-i.invariant

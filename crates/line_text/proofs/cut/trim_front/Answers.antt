@@ -1,17 +1,15 @@
-use Rattle.std.proofs.Common.{sym, ◌∙◌, arith}
-use Rattle.std.proofs.lemmas.List.{drop_all}
-use Rattle.line_text.proofs.Cuts.{last_part, trim_more, trim_stop, trim_all}
+use Rattle.std.proofs.Common.{rules, tests, arith, ◌==◌, not}
+use Rattle.std.proofs.lemmas.Grind.{common_steps}
+use Rattle.std.proofs.lemmas.Iterator.{YieldsList-from_slice}
+use Rattle.std.proofs.lemmas.Iterator.Search.{position_from_yields_List}
 use Rattle.line_text.proofs.cut.trim_front.Goals as goal
 
-pub loop-i-preserved : goal.loop-i-preserved
-loop-i-preserved c = trim_more c.args.text.now c.loop-i.i c.loop-i.invariant (omega arith) c.if-text-i-ne32.false
+pub returns-in-Some : goal.returns-in-Some
+returns-in-Some c =
+    let told = position_from_yields_List (λ x. not (x == 32)) _ _ c.position.result c.position.ensures.ran (YieldsList-from_slice c.args.text.now (cc)) (λ x b q k. search (rules, tests)) in
+    grind (arith, common_steps)
 
-pub returns-then-text-i-ne32 : goal.returns-then-text-i-ne32
-returns-then-text-i-ne32 c =
-    let xs = c.args.text.now in
-    last_part xs c.loop-i.i ∙ sym (trim_stop xs c.loop-i.i c.loop-i.invariant (omega arith) c.if-text-i-ne32.true)
-
-pub returns : goal.returns
-returns c =
-    let xs = c.args.text.now in
-    last_part xs _ ∙ drop_all _ xs (omega arith) ∙ sym (trim_all xs c.loop-i.i c.loop-i.invariant (omega arith))
+pub returns-in-None : goal.returns-in-None
+returns-in-None c =
+    let told = position_from_yields_List (λ x. not (x == 32)) _ _ c.position.result c.position.ensures.ran (YieldsList-from_slice c.args.text.now (cc)) (λ x b q k. search (rules, tests)) in
+    grind (arith, common_steps)

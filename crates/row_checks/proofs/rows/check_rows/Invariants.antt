@@ -1,8 +1,8 @@
-use Rattle.std.proofs.Common.{◌≡◌, drop}
-use Rattle.chunk_tables.specs.Lists.{first_found}
-use Rattle.chunk_faults.specs.Tests.{least, each_from}
+use Rattle.std.proofs.Common.{◌≡◌, ℕ, Option, drop}
+use Rattle.row_checks.specs.Told.{Tells, first_told}
+use Rattle.row_checks.proofs.Told.{told_from}
 use Rattle.row_checks.proofs.rows.check_rows.Given as goal
 
-abbrev pub invariant-loop-i : goal.invariant-loop-i
-invariant-loop-i g l =
-    first_found least (each_from l.i (g.C.RowCheck.tests l.by) (drop l.i l.rows)) ≡ first_found least (each_from 0 (g.C.RowCheck.tests l.by) l.rows)
+abbrev pub invariant-loop-number : goal.invariant-loop-number
+invariant-loop-number g l =
+    (says : _ → _ → Option ℕ) → Tells (goal.C-post g l.check) says → told_from says l.number (drop l.number l.rows) ≡ first_told says l.rows

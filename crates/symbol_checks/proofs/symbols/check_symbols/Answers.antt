@@ -1,8 +1,8 @@
-use Rattle.std.proofs.Common.{◌∙◌}
+use Rattle.std.proofs.Common.{rules}
 use Rattle.chunk_tables.specs.View.{chunk_of, module_of}
 use Rattle.chunk_faults.specs.Verdict.{symbol_rows}
-use Rattle.chunk_faults.proofs.Loops.{modules_are}
+use Rattle.row_checks.proofs.Told.{by_rows}
 use Rattle.symbol_checks.proofs.symbols.check_symbols.Goals as goal
 
 pub returns : goal.returns
-returns c = c.check_each_module.ensures ∙ modules_are module_of (symbol_rows (chunk_of c.args.chunk.now)) _ _ c.as_slice.ensures.value
+returns c = by_rows module_of _ _ c.deref.ensures.value _ c.check_rows.ensures (symbol_rows (chunk_of c.args.chunk.now)) (λ i x r l h. search rules)

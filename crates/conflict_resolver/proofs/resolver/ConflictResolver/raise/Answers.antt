@@ -1,11 +1,11 @@
 use Rattle.std.proofs.Common.{map, ap, ◌∙◌}
 use Rattle.conflict_resolver.specs.Held.{rows}
 use Rattle.conflict_resolver.specs.Rows.{record_of}
-use Rattle.conflict_resolver.proofs.Rows.{assign_raised}
+use Rattle.conflict_resolver.proofs.Rows.{put_raised}
 use Rattle.conflict_resolver.proofs.resolver.ConflictResolver.raise.Goals as goal
 
 pub returns : goal.returns
 returns c = record {
-  records = ap (map record_of) c.store.ensures.rows ∙ assign_raised (rows c.args.self.now) c.args.name.now c.args.counter c.requires.recorded;
+  records = ap (map record_of) c.store.ensures.rows ∙ put_raised (rows c.args.self.now) c.args.name.now c.args.counter c.requires.recorded;
   room = c.store.ensures.room;
 }

@@ -1,10 +1,19 @@
-use Rattle.std.proofs.Common.{sym, refl, ◌∙◌, arith}
+use Rattle.std.proofs.Common.{◌≡◌, ℕ, Bool, List, Ok, sym, refl, ap, ◌∙◌, arith}
+use Rattle.std.proofs.lemmas.Result.{err_from_is_err_and}
+use Rattle.names.specs.Refusals.{number_of}
 use Rattle.names.specs.Spelt.{spelt}
-use Rattle.conflict_resolver.specs.Answers.{answered}
+use Rattle.conflict_resolver.specs.Answers.{looked, answered}
 use Rattle.conflict_resolver.specs.Held.{held, room}
-use Rattle.conflict_resolver.specs.Rules.{granted, refused, next}
+use Rattle.conflict_resolver.specs.Records.{Record}
+use Rattle.conflict_resolver.specs.Rules.{Outcome, granted, refused, next, searched}
+use Rattle.conflict_resolver.specs.Laws.{Sound, Bounded}
 use Rattle.conflict_resolver.proofs.Searches.{no_base, no_room, begins, ends_at_once, sound_of, bounded_of}
 use Rattle.conflict_resolver.proofs.resolver.ConflictResolver.resolve.Goals as goal
+
+-- the laws, with the outcome that the rules compute
+promised : (v : List ℕ → Bool → Bool) (b : List ℕ) (n m : ℕ) (es : List Record) (o : Outcome) → o ≡ searched v b n es → m ≡ n
+    → record { follows_the_rules : o ≡ searched v b n es; grants_a_new_unvetoed_name : Sound v b es o; probes_are_bounded : Bounded v b es o; room : m ≡ n }
+promised v b n m es o e r = record { follows_the_rules = e; grants_a_new_unvetoed_name = sound_of v b n es o e; probes_are_bounded = bounded_of v b n es o e; room = r }
 
 pub returns-then-not-is_base : goal.returns-then-not-is_base
 returns-then-not-is_base g c =
@@ -12,13 +21,7 @@ returns-then-not-is_base g c =
     let b = spelt c.args.base.now in
     let es = held c.args.self.now in
     let n = room c.args.self.now in
-    let e = no_base v b n es (sym c.if-not-is_base.ensures) in
-    record {
-      follows_the_rules = e;
-      grants_a_new_unvetoed_name = sound_of v b n es (refused es 7) e;
-      probes_are_bounded = bounded_of v b n es (refused es 7) e;
-      room = refl;
-    }
+    promised v b n n es (refused es 7) (no_base v b n es (sym c.if-not-is_base.ensures)) refl
 
 pub returns-then-free-eq0 : goal.returns-then-free-eq0
 returns-then-free-eq0 g c =
@@ -26,52 +29,38 @@ returns-then-free-eq0 g c =
     let b = spelt c.args.base.now in
     let es = held c.args.self.now in
     let n = room c.args.self.now in
-    let e = no_room v b n es (sym c.if-not-is_base.ensures) (omega arith) in
-    record {
-      follows_the_rules = e;
-      grants_a_new_unvetoed_name = sound_of v b n es (refused es 10) e;
-      probes_are_bounded = bounded_of v b n es (refused es 10) e;
-      room = refl;
-    }
+    promised v b n n es (refused es 10) (no_room v b n es (sym c.if-not-is_base.ensures) (omega arith)) refl
 
-pub returns-in-Next : goal.returns-in-Next
-returns-in-Next g c =
+pub returns-in_err-first : goal.returns-in_err-first
+returns-in_err-first g c =
     let v = g.P.Policy.vetoes c.args.policy.now in
     let b = spelt c.args.base.now in
     let es = held c.args.self.now in
     let n = room c.args.self.now in
-    let e = c.search_forms.ensures.runs ∙ begins v b n es (next (held c.look.new.self) c.in-Next.first 0) (sym c.if-not-is_base.ensures) (omega arith) (c.in-Next.ensures.follows 0) in
-    record {
-      follows_the_rules = e;
-      grants_a_new_unvetoed_name = sound_of v b n es (answered c.search_forms.result (held c.search_forms.new.self)) e;
-      probes_are_bounded = bounded_of v b n es (answered c.search_forms.result (held c.search_forms.new.self)) e;
-      room = c.search_forms.ensures.room ∙ c.look.ensures.room;
-    }
+    let o = refused (held c.look.new.self) (number_of c.in_err-first.field-0.0) in
+    let p = err_from_is_err_and c.from_residual.result c.from_residual.ensures.1 in
+    let is : answered c.from_residual.result (held c.look.new.self) ≡ o = rw (p.1, p.2) refl in
+    promised v b n _ es (answered c.from_residual.result (held c.look.new.self)) (is ∙ ends_at_once v b n es o (sym c.if-not-is_base.ensures) (omega arith) (c.in_err-first.ensures.follows 0)) c.look.ensures.room
 
-pub returns-in-Free : goal.returns-in-Free
-returns-in-Free g c =
+pub returns-in-Some : goal.returns-in-Some
+returns-in-Some g c =
     let v = g.P.Policy.vetoes c.args.policy.now in
     let b = spelt c.args.base.now in
     let es = held c.args.self.now in
     let n = room c.args.self.now in
-    let e = ends_at_once v b n es (granted (held c.look.new.self) b 0) (sym c.if-not-is_base.ensures) (omega arith) (c.in-Free.ensures.follows 0) in
-    record {
-      follows_the_rules = e;
-      grants_a_new_unvetoed_name = sound_of v b n es (granted (held c.look.new.self) b 0) e;
-      probes_are_bounded = bounded_of v b n es (granted (held c.look.new.self) b 0) e;
-      room = c.look.ensures.room;
-    }
+    let fs = held c.look.new.self in
+    let was = c.in_ok-first.was ∙ ap Ok c.in-Some.is in
+    let st = ap (λ r. looked r fs b 0) (sym was) ∙ c.look.ensures.follows 0 in
+    let o = answered c.search_forms.result (held c.search_forms.new.self) in
+    promised v b n _ es o (c.search_forms.ensures.runs ∙ begins v b n es (next fs c.in-Some.first 0) (sym c.if-not-is_base.ensures) (omega arith) st) (c.search_forms.ensures.room ∙ c.look.ensures.room)
 
-pub returns-in-Over : goal.returns-in-Over
-returns-in-Over g c =
+pub returns-in-None : goal.returns-in-None
+returns-in-None g c =
     let v = g.P.Policy.vetoes c.args.policy.now in
     let b = spelt c.args.base.now in
     let es = held c.args.self.now in
     let n = room c.args.self.now in
-    let e = ends_at_once v b n es (refused (held c.look.new.self) 11) (sym c.if-not-is_base.ensures) (omega arith) (c.in-Over.ensures.follows 0) in
-    record {
-      follows_the_rules = e;
-      grants_a_new_unvetoed_name = sound_of v b n es (refused (held c.look.new.self) 11) e;
-      probes_are_bounded = bounded_of v b n es (refused (held c.look.new.self) 11) e;
-      room = c.look.ensures.room;
-    }
+    let fs = held c.look.new.self in
+    let was = c.in_ok-first.was ∙ ap Ok c.in-None.is in
+    let st = ap (λ r. looked r fs b 0) (sym was) ∙ c.look.ensures.follows 0 in
+    promised v b n _ es (granted fs b 0) (ends_at_once v b n es (granted fs b 0) (sym c.if-not-is_base.ensures) (omega arith) st) c.look.ensures.room

@@ -8,8 +8,5 @@ use Rattle.conflict_resolver.proofs.resolver.ConflictResolver.search_forms.Given
 -- what the probes to come find is what they would have found from the start
 abbrev pub invariant-loop-probes : goal.invariant-loop-probes
 invariant-loop-probes g l = let v = g.P.Policy.vetoes l.policy in
-    Suffix l.conflict_index × (l.probes ≤ 4096) × (length (held l.self) < room l.self) × (room l.self ≡ room l.initial.self)
-    × (run v (spelt l.base) (4096 - l.probes) (next (held l.self) l.conflict_index l.probes) ≡ run v (spelt l.base) 4096 (next (held l.initial.self) l.initial.conflict_index 0))
-
-abbrev pub decreases-loop-probes : goal.decreases-loop-probes
-decreases-loop-probes g l = 4096 - l.probes
+    Suffix l.conflict_index × (1 ≤ l.probes) × (length (held l.self) < room l.self) × (room l.self ≡ room l.initial.self)
+    × (run v (spelt l.base) (4097 - l.probes) (next (held l.self) l.conflict_index (l.probes - 1)) ≡ run v (spelt l.base) 4096 (next (held l.initial.self) l.initial.conflict_index 0))

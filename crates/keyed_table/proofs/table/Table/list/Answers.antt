@@ -1,33 +1,36 @@
-use Rattle.std.proofs.Common.{◌≡◌, ℕ, ◌-◌, ◌++◌, map, length, take, drop, sym, refl, ap, ◌∙◌, subst, arith}
-use Rattle.std.specs.List.Sorted.{IsPermutation}
+use Rattle.std.proofs.Common.{◌≡◌, ℕ, ◌≤◌, List, ◌++◌, length, take, drop, is_some, refl, sym, ap, ◌∙◌, subst, arith}
+use Rattle.std.specs.List.{flat_map}
+use Rattle.std.specs.Option.{option_to_list}
+use Rattle.std.proofs.lemmas.List.{take-take, length-take-le, get_or-take}
+use Rattle.keyed_table.specs.Contents.{Contents}
 use Rattle.keyed_table.specs.Links.{Full, held}
-use Rattle.keyed_table.specs.Model.{plain}
-use Rattle.keyed_table.specs.View.{stored, Listed}
-use Rattle.keyed_table.proofs.Views.{len_is}
+use Rattle.keyed_table.specs.Listed.{Listed}
+use Rattle.keyed_table.specs.declared.slot.Slot.{Slot}
+use Rattle.keyed_table.proofs.Views.{length_held}
 use Rattle.keyed_table.proofs.Listings.{listed}
 use Rattle.keyed_table.proofs.table.Table.list.Goals as goal
 
-pub returns-then-out-n : goal.returns-then-out-n
-returns-then-out-n g c = let n = len_is c.args.self.now in (refl, omega arith, refl)
+full_front : {K V : Type 0} (slots : List (Slot K V)) (n : ℕ) → n ≤ length slots → Full slots n → Full (take n slots) (length (take n slots))
+full_front slots n l full i d m =
+    let k = length-take-le n slots l in
+    ap (λ (s : Slot _ _). is_some s.entry) (get_or-take n slots i d (omega arith)) ∙ full i d (omega arith)
 
-pub copy_out-requires : goal.copy_out-requires
-copy_out-requires g c =
-    let t = c.args.self.now in
-    let is = c.as_slice.ensures.value in
-    let long = ap length is in
-    let w = t.within in
-    record { full = subst (λ ss. Full ss t.len) (sym is) t.full; within = omega arith; fits = c.if-out-n.false }
+held_front : {K V : Type 0} (slots : List (Slot K V)) (n : ℕ) → held (take n slots) n ≡ held slots n
+held_front slots n = ap (flat_map (λ s. option_to_list s.entry)) (take-take n n slots (omega arith))
+
+pub returns-then-out-n : goal.returns-then-out-n
+returns-then-out-n g c =
+    (refl, omega (arith, length_held _ _ c.self.invariant, ap (λ (t : Contents g.row.K.Denot g.row.V.Denot). length t.entries) c.self.view_is), refl)
 
 pub returns : goal.returns
 returns g c =
-    let t = c.args.self.now in
-    let copied = c.copy_out.new.out in
-    let ys = c.by_key.new.entries in
-    let under = g.K.OrderedKey.under in
-    let hashed = g.K.HashKey.hashed in
-    let whole : t.len - 0 ≡ t.len = omega arith in
-    let copies = c.copy_out.ensures.front ∙ ap (λ ss. map plain (held ss t.len)) c.as_slice.ensures.value in
-    let P : ℕ → Type 0 = λ m. IsPermutation (take m copied) ys → Listed under hashed (stored t) c.args.out.now (ys ++ drop m copied) t.len in
-    subst P (sym whole)
-    (λ s. listed hashed g.met.K.OrderedKey.order (stored t) t.distinct c.args.out.now copied ys t.len (len_is t) copies c.copy_out.ensures.rest s c.by_key.ensures.sorted)
-    c.by_key.ensures.shuffled
+    let slots = c.self.inside.slots.items in
+    let n = c.self.inside.len in
+    let out = c.copy_out.new.out in
+    let w = c.self.invariant.within in
+    let m : length (take n c.deref.result.now) ≡ n = ap (λ ss. length (take n ss)) c.deref.ensures.value ∙ length-take-le n slots w in
+    let front : take n out ≡ held slots n =
+    subst (λ k. take k out ≡ held (take n c.deref.result.now) k) m c.copy_out.ensures.front ∙ ap (λ ss. held (take n ss) n) c.deref.ensures.value ∙ held_front slots n in
+    let rest : drop n out ≡ drop n c.args.out.now = subst (λ k. drop k out ≡ drop k c.args.out.now) m c.copy_out.ensures.rest in
+    subst (λ (t : Contents g.row.K.Denot g.row.V.Denot). Listed g.K.OrderedKey.under t.entries c.args.out.now (c.by_key.new.entries ++ drop n out) n) c.self.view_is
+    (listed g.K.OrderedKey.order (held slots n) c.self.invariant.distinct c.args.out.now out c.by_key.new.entries n (sym (length_held slots n c.self.invariant)) front rest c.by_key.ensures.shuffled c.by_key.ensures.sorted)

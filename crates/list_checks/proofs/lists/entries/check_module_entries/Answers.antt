@@ -1,8 +1,8 @@
-use Rattle.std.proofs.Common.{refl, ◌∙◌}
+use Rattle.std.proofs.Common.{rules, refl}
 use Rattle.chunk_tables.specs.View.{chunk_of}
 use Rattle.chunk_faults.specs.ListRows.{module_entry}
-use Rattle.chunk_faults.proofs.Loops.{entries_are}
+use Rattle.row_checks.proofs.Told.{by_entries}
 use Rattle.list_checks.proofs.lists.entries.check_module_entries.Goals as goal
 
 pub returns : goal.returns
-returns c = c.check_rows.ensures ∙ entries_are (module_entry (chunk_of c.args.chunk.now)) c.args.numbers.now c.args.numbers.now refl
+returns c = by_entries _ _ refl _ c.check_rows.ensures (module_entry (chunk_of c.args.chunk.now)) (λ i x r l h. search rules)

@@ -1,9 +1,0 @@
-use Rattle.keyed_table.proofs.Latest.{upto}
-use Rattle.keyed_table.proofs.Seeks.{Seeking}
-use Rattle.keyed_table.proofs.chain.seek.Given as goal
-
-abbrev pub invariant-loop-at : goal.invariant-loop-at
-invariant-loop-at g l = Seeking g.K.HashKey.alike g.K.HashKey.hashed l.slots l.len l.key l.at
-
-abbrev pub decreases-loop-at : goal.decreases-loop-at
-decreases-loop-at g l = upto l.at
