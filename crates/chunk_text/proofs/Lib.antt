@@ -1,0 +1,2 @@
+mod FormatWords
+mod Found

@@ -1,0 +1,10 @@
+pub mod Faults
+pub mod Gives
+pub mod Words
+pub mod Rows
+pub mod ModuleLines
+pub mod ChunkRows
+pub mod ChunkLines
+pub mod Verbs
+pub mod Documents
+pub mod Seen
