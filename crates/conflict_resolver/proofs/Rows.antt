@@ -1,5 +1,5 @@
 -- The records as a table of names holds them. Assumes nothing.
-use Rattle.std.proofs.Common.{◌≡◌, ℕ, ◌+◌, ◌<◌, Bool, true, false, cond, ◌||◌, ltb, ◌⊎◌, List, [], ◌∷◌, map, length, is_some, Some, None, Ok, Err, Result, sym, refl, ap, ◌∙◌, subst, inl, inr, arith, MatchResult}
+use Rattle.std.proofs.Common.{◌≡◌, ℕ, suc, ◌+◌, ◌<◌, ◌≤◌, Bool, true, false, cond, ◌||◌, ltb, ◌⊎◌, List, [], ◌∷◌, map, length, is_some, Some, None, Ok, Err, Result, sym, refl, ap, ◌∙◌, subst, inl, inr, arith, MatchResult}
 use mathlib.Core.Logic.{∥∥₁_map}
 use Rattle.std.specs.Str.{bytes_eq}
 use Rattle.std.proofs.lemmas.Slice.Eq.{bytes_eq-Decides}
@@ -82,18 +82,47 @@ once_none es e = subst Once (sym e) tt
 pub length_held : (t : Contents Name ℕ) → length (map record_of t.entries) ≡ length t.entries
 length_held t = length-map t.entries record_of
 
+-- room for more than is asked for
+wider : (b : Bool) (l m r : ℕ) → (b || ltb l m) ≡ true → m ≤ r → (b || ltb l r) ≡ true
+wider true l m r h w = refl
+wider false l m r h w = grind (arith)
+
+-- an entry more where the name has none yet
+length_put : (es : List (Entry Name ℕ)) (k : Name) (v : ℕ) → length (put name_alike es k v) ≡ cond (is_some (lookup name_alike es k)) (length es) (length es + 1)
+length_put [] k v = refl
+length_put (e ∷ es) k v = on (name_alike e.key k) (length_put es k v)
+  where
+    on : (b : Bool) → length (put name_alike es k v) ≡ cond (is_some (lookup name_alike es k)) (length es) (length es + 1)
+        → length (cond b (record { key = k; value = v } ∷ es) (e ∷ put name_alike es k v)) ≡ cond (is_some (cond b (Some e.value) (lookup name_alike es k))) (length (e ∷ es)) (length (e ∷ es) + 1)
+    on true ih = refl
+    on false ih = next (is_some (lookup name_alike es k)) ih
+      where
+        next : (b : Bool) → length (put name_alike es k v) ≡ cond b (length es) (length es + 1) → suc (length (put name_alike es k v)) ≡ cond b (suc (length es)) (suc (length es) + 1)
+        next true h = omega (arith, h)
+        next false h = omega (arith, h)
+
 -- what a table holds after the counter of a name was stored, where its record is there or one is free
-module _ (t : Contents Name ℕ) (k : Name) (v : ℕ) (ok : Bool) (es : List (Entry Name ℕ)) (space : (is_some (counter_of (map record_of t.entries) (spelt k)) || ltb (length (map record_of t.entries)) (room t)) ≡ true) (e : ok ≡ takes name_alike t k) (f : es ≡ cond ok (put name_alike t.entries k v) t.entries) where
+module _ (t : Contents Name ℕ) (most : ℕ) (fits : most ≤ room t) (k : Name) (v : ℕ) (ok : Bool) (es : List (Entry Name ℕ)) (space : (is_some (counter_of (map record_of t.entries) (spelt k)) || ltb (length (map record_of t.entries)) most) ≡ true) (e : ok ≡ takes name_alike t k) (f : es ≡ cond ok (put name_alike t.entries k v) t.entries) where
+  free : (is_some (lookup name_alike t.entries k) || ltb (length t.entries) most) ≡ true
+  free =
+      ap (λ o. is_some o || ltb (length t.entries) most) (lookup_counter t.entries k)
+      ∙ ap (λ n. is_some (counter_of (map record_of t.entries) (spelt k)) || ltb n most) (sym (length_held t)) ∙ space
+
   granted : takes name_alike t k ≡ true
-  granted =
-      ap (λ o. is_some o || ltb (length t.entries) (room t)) (lookup_counter t.entries k)
-      ∙ ap (λ n. is_some (counter_of (map record_of t.entries) (spelt k)) || ltb n (room t)) (sym (length_held t)) ∙ space
+  granted = wider (is_some (lookup name_alike t.entries k)) (length t.entries) most (room t) free fits
 
   pub rows_put : es ≡ put name_alike t.entries k v
   rows_put = f ∙ cond-true ok _ _ (e ∙ granted)
 
   pub once_put : ∥ Once t.entries ∥₁ → ∥ Once es ∥₁
   once_put o = ∥∥₁_map o (λ a. subst Once (sym rows_put) (put_once t.entries k v a))
+
+  pub within_put : length t.entries ≤ most → length es ≤ most
+  within_put w = on (is_some (lookup name_alike t.entries k)) free (ap length rows_put ∙ length_put t.entries k v)
+    where
+      on : (b : Bool) → (b || ltb (length t.entries) most) ≡ true → length es ≡ cond b (length t.entries) (length t.entries + 1) → length es ≤ most
+      on true h n = omega (arith, n, w)
+      on false h n = grind (arith)
 
 -- the listing of the rows
 pub ascending : (t : Contents Name ℕ) (r : Result ℕ Refusal) (was is : List (Entry Name ℕ)) → MatchResult r (Listed name_under t.entries was is) (λ e. (number_of e ≡ 15) × (length was < length t.entries) × (is ≡ was)) → MatchResult r (Ascending t.entries was is) (λ e. (number_of e ≡ 15) × (length was < length (map record_of t.entries)) × (is ≡ was))

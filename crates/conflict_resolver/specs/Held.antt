@@ -4,7 +4,6 @@ use Rattle.std.specs.List.Sorted.{IsPermutation}
 use Rattle.names.specs.declared.name.Name.{Name}
 use Rattle.keys.specs.Names.{name_under}
 use Rattle.keys.specs.Order.{Rising}
-use Rattle.keyed_table.specs.Contents as table
 use Rattle.keyed_table.specs.declared.slot.Entry.{Entry}
 use Rattle.conflict_resolver.specs.Records.{Record}
 use Rattle.conflict_resolver.specs.Rows.{record_of}
@@ -18,9 +17,13 @@ rows r = r.used.entries
 abbrev pub held : ConflictResolver → List Record
 held r = map record_of (rows r)
 
--- how many records the memory has, used and free
+-- how many names may be on record
 abbrev pub room : ConflictResolver → ℕ
-room r = table.room r.used
+room r = r.most
+
+-- how many records the memory has, used and free
+abbrev pub slots : ConflictResolver → ℕ
+slots r = length r.used.memory
 
 -- the rows es by ascending names, in the first n places of a list that is otherwise as it was
 pub record Ascending (es was is : List (Entry Name ℕ)) (n : ℕ) : Type 0 where

@@ -1,4 +1,6 @@
 // Name records in memory that the caller makes, hands over and gets back.
+ghost use Rattle.std.specs.Prelude.{◌≤◌, length};
+ghost use Rattle.keyed_table.specs.Contents.{room};
 ghost use Rattle.conflict_resolver.specs.Rows.{Once};
 
 use keyed_table::slot::{Entry, Slot};
@@ -19,5 +21,9 @@ pub type RecordSlot = Slot<Name, u16>;
 #[derive(Drop)]
 pub struct ConflictResolver {
     used: Table<Name, u16>,
+    // How many names may be on record; the memory has room for as many.
+    most: usize,
+    ghost within: { length used.entries ≤ most },
+    ghost fits: { most ≤ room used },
     ghost once: { ∥ Once used.entries ∥₁ },
 }

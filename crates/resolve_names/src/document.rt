@@ -109,7 +109,7 @@ fn perform(heap: Global, lines: Lines<'_>, records: u32, out: &mut Vec<u8>) -> i
     }
     let slots = vec![in heap; RecordSlot::empty(); records as usize]?;
     let mut session = Session {
-        resolver: ConflictResolver::new(slots),
+        resolver: ConflictResolver::new(slots, records as usize),
         vetoes: Vetoes::none(heap),
     };
     for line in lines.take_while(|line| *line != SEPARATOR) {

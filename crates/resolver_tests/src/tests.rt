@@ -18,7 +18,7 @@ fn name(text: &[u8]) -> Result<Name, Fail> {
 
 fn resolver(rt: &HostRuntime, records: usize) -> Result<ConflictResolver, Fail> {
     let slots = vec![in rt.alloc(); RecordSlot::empty(); records]?;
-    Ok(ConflictResolver::new(slots))
+    Ok(ConflictResolver::new(slots, records))
 }
 
 // The number of the refusal, unless a name is granted.

@@ -1,5 +1,5 @@
 // What is on record.
-ghost use Rattle.std.specs.Prelude.{◌≡◌, ◌+◌, ◌<◌, true, ◌||◌, [], length, is_some, Some, None, vec_len, MatchResult, nat_lt};
+ghost use Rattle.std.specs.Prelude.{◌≡◌, ◌+◌, ◌<◌, true, ◌||◌, [], length, is_some, Some, None, min, vec_len, MatchResult, nat_lt};
 ghost use Rattle.std.specs.Option.{option_map};
 ghost use Rattle.std.specs.List.{slice_get};
 ghost use Rattle.names.specs.Refusals.{number_of};
@@ -8,7 +8,7 @@ ghost use Rattle.keyed_table.specs.Model.{put};
 ghost use Rattle.keys.specs.Names.{name_alike};
 ghost use Rattle.keyed_table.specs.Links.{AllBlank};
 ghost use Rattle.conflict_resolver.specs.Answers.{settled};
-ghost use Rattle.conflict_resolver.specs.Held.{held, room, rows, Ascending};
+ghost use Rattle.conflict_resolver.specs.Held.{held, room, slots as slots_of, rows, Ascending};
 ghost use Rattle.conflict_resolver.specs.Rows.{record_of};
 ghost use Rattle.conflict_resolver.specs.Records.{counter_of, raised, recording};
 ghost use Rattle.conflict_resolver.specs.Rules.{reserved};
@@ -21,15 +21,17 @@ use names::refusal::Refusal;
 // Each change says beside the records that the room stays: it is a fact about two states, which no type can hold. A free
 // record is asked for only where one is taken, since a full memory is a memory too.
 impl ConflictResolver {
-    // With nothing on record, over the slots, each of which is emptied.
-    pub fn new(slots: Vec<RecordSlot>) -> ConflictResolver
+    // With nothing on record, over the slots, each of which is emptied. At most so many names may be on record, and no more
+    // than there are slots.
+    pub fn new(slots: Vec<RecordSlot>, most: usize) -> ConflictResolver
         ensures empty { held result ≡ [] }
-        ensures room { room result ≡ vec_len slots }
+        ensures room { room result ≡ min most (vec_len slots) }
+        ensures slots { slots_of result ≡ vec_len slots }
         ensures blank { AllBlank result.used.memory }
     {
-        ConflictResolver {
-            used: Table::new(slots),
-        }
+        let used = Table::new(slots);
+        let most = most.min(used.capacity());
+        ConflictResolver { used, most }
     }
 
     // How many names are on record.
@@ -64,6 +66,7 @@ impl ConflictResolver {
         requires { is_some (counter_of (held self.old) (spelt name.now)) || nat_lt (length (held self.old)) (room self.old) ≡ true }
         ensures rows { rows self.new ≡ put name_alike (rows self.old) name.now counter }
         ensures room { room self.new ≡ room self.old }
+        ensures slots { slots_of self.new ≡ slots_of self.old }
     {
         let _ = self.used.insert(*name, counter);
     }
@@ -74,6 +77,7 @@ impl ConflictResolver {
         requires fits { counter < 9999 }
         ensures records { held self.new ≡ raised (held self.old) (spelt name.now) }
         ensures room { room self.new ≡ room self.old }
+        ensures slots { slots_of self.new ≡ slots_of self.old }
     {
         self.store(name, counter + 1);
     }
@@ -84,21 +88,23 @@ impl ConflictResolver {
         requires free { length (held self.old) < room self.old }
         ensures records { held self.new ≡ recording (held self.old) (spelt name.now) }
         ensures room { room self.new ≡ room self.old }
+        ensures slots { slots_of self.new ≡ slots_of self.old }
     {
         self.store(name, 0);
     }
 
-    // How many records are free.
+    // How many more names may be on record.
     pub fn free(&self) -> usize
         ensures { result + length (held self.now) ≡ room self.now }
     {
-        self.used.free()
+        self.most - self.len()
     }
 
     // Puts a name on record with 0, unless it is on record.
     pub fn reserve(&mut self, name: &Name) -> Result<(), Refusal>
         ensures rules { settled result (held self.new) ≡ reserved (room self.old) (held self.old) (spelt name.now) }
         ensures room { room self.new ≡ room self.old }
+        ensures slots { slots_of self.new ≡ slots_of self.old }
     {
         if !name.is_base() {
             return Err(Refusal::BadName);
@@ -124,7 +130,7 @@ impl ConflictResolver {
     pub fn into_slots(self) -> Vec<RecordSlot>
         ensures { result.items ≡ self.used.memory }
     {
-        let ConflictResolver { used } = self;
+        let ConflictResolver { used, .. } = self;
         used.into_slots()
     }
 }

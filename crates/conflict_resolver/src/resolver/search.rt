@@ -4,7 +4,7 @@ ghost use Rattle.names.specs.Bases.{is_base};
 ghost use Rattle.names.specs.Forms.{Suffix};
 ghost use Rattle.names.specs.Spelt.{spelt};
 ghost use Rattle.conflict_resolver.specs.Answers.{looked, answered, Going};
-ghost use Rattle.conflict_resolver.specs.Held.{held, room};
+ghost use Rattle.conflict_resolver.specs.Held.{held, room, slots as slots_of};
 ghost use Rattle.conflict_resolver.specs.Laws.{Sound, Bounded};
 ghost use Rattle.conflict_resolver.specs.Records.{counter_of};
 ghost use Rattle.conflict_resolver.specs.Rules.{next, follow, sight, run, searched};
@@ -39,6 +39,7 @@ impl ConflictResolver {
         ensures follows { (p : ℕ) → looked result (held self.new) (spelt candidate.now) p ≡ follow (held self.old) (spelt candidate.now) k p (sight (counter_of (held self.old) (spelt candidate.now)) (P.vetoes policy.now (spelt candidate.now) (k == 0))) }
         ensures going { Going result self.new }
         ensures room { room self.new ≡ room self.old }
+        ensures slots { slots_of self.new ≡ slots_of self.old }
     {
         if let Some(counter) = self.counter(candidate) {
             if counter >= HIGHEST_NUMBER {
@@ -69,6 +70,7 @@ impl ConflictResolver {
         requires free { length (held self.old) < room self.old }
         ensures runs { answered result (held self.new) ≡ run (P.vetoes policy.now) (spelt base.now) 4096 (next (held self.old) first 0) }
         ensures room { room self.new ≡ room self.old }
+        ensures slots { slots_of self.new ≡ slots_of self.old }
     {
         let mut conflict_index = first;
         for probes in 1..=MOST_PROBES {
@@ -94,6 +96,7 @@ impl ConflictResolver {
         ensures grants_a_new_unvetoed_name { Sound (P.vetoes policy.now) (spelt base.now) (held self.old) (answered result (held self.new)) }
         ensures probes_are_bounded { Bounded (P.vetoes policy.now) (spelt base.now) (held self.old) (answered result (held self.new)) }
         ensures room { room self.new ≡ room self.old }
+        ensures slots { slots_of self.new ≡ slots_of self.old }
     {
         if !base.is_base() {
             return Err(Refusal::BadName);

@@ -8,4 +8,5 @@ pub returns : goal.returns
 returns c = record {
   records = ap (map record_of) c.store.ensures.rows ∙ put_recorded (rows c.args.self.now) c.args.name.now c.requires.unrecorded;
   room = c.store.ensures.room;
+  slots = c.store.ensures.slots;
 }

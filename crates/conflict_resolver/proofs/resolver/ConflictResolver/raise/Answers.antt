@@ -8,4 +8,5 @@ pub returns : goal.returns
 returns c = record {
   records = ap (map record_of) c.store.ensures.rows ∙ put_raised (rows c.args.self.now) c.args.name.now c.args.counter c.requires.recorded;
   room = c.store.ensures.room;
+  slots = c.store.ensures.slots;
 }

@@ -9,18 +9,21 @@ pub returns-then-not-is_base : goal.returns-then-not-is_base
 returns-then-not-is_base c = record {
   rules = reserve_no_name (room c.args.self.now) (held c.args.self.now) (spelt c.args.name.now) (sym c.if-not-is_base.ensures);
   room = refl;
+  slots = refl;
 }
 
 pub returns-then-contains : goal.returns-then-contains
 returns-then-contains c = record {
   rules = reserve_recorded (room c.args.self.now) (held c.args.self.now) (spelt c.args.name.now) (sym c.if-not-is_base.ensures) (sym c.if-contains.ensures);
   room = refl;
+  slots = refl;
 }
 
 pub returns-then-free-eq0 : goal.returns-then-free-eq0
 returns-then-free-eq0 c = record {
   rules = reserve_full (room c.args.self.now) (held c.args.self.now) (spelt c.args.name.now) (sym c.if-not-is_base.ensures) (none_from _ (sym c.if-contains.ensures)) (omega arith);
   room = refl;
+  slots = refl;
 }
 
 pub put_on_record-requires : goal.put_on_record-requires
@@ -30,4 +33,5 @@ pub returns : goal.returns
 returns c = record {
   rules = ap made c.put_on_record.ensures.records ∙ reserve_new (room c.args.self.now) (held c.args.self.now) (spelt c.args.name.now) (sym c.if-not-is_base.ensures) (none_from _ (sym c.if-contains.ensures)) (omega arith);
   room = c.put_on_record.ensures.room;
+  slots = c.put_on_record.ensures.slots;
 }

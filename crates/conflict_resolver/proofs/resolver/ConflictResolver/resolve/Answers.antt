@@ -11,9 +11,9 @@ use Rattle.conflict_resolver.proofs.Searches.{no_base, no_room, begins, ends_at_
 use Rattle.conflict_resolver.proofs.resolver.ConflictResolver.resolve.Goals as goal
 
 -- the laws, with the outcome that the rules compute
-promised : (v : List ℕ → Bool → Bool) (b : List ℕ) (n m : ℕ) (es : List Record) (o : Outcome) → o ≡ searched v b n es → m ≡ n
-    → record { follows_the_rules : o ≡ searched v b n es; grants_a_new_unvetoed_name : Sound v b es o; probes_are_bounded : Bounded v b es o; room : m ≡ n }
-promised v b n m es o e r = record { follows_the_rules = e; grants_a_new_unvetoed_name = sound_of v b n es o e; probes_are_bounded = bounded_of v b n es o e; room = r }
+promised : (v : List ℕ → Bool → Bool) (b : List ℕ) (n m : ℕ) (es : List Record) (o : Outcome) {i j : ℕ} → o ≡ searched v b n es → m ≡ n → i ≡ j
+    → record { follows_the_rules : o ≡ searched v b n es; grants_a_new_unvetoed_name : Sound v b es o; probes_are_bounded : Bounded v b es o; room : m ≡ n; slots : i ≡ j }
+promised v b n m es o e r s = record { follows_the_rules = e; grants_a_new_unvetoed_name = sound_of v b n es o e; probes_are_bounded = bounded_of v b n es o e; room = r; slots = s }
 
 pub returns-then-not-is_base : goal.returns-then-not-is_base
 returns-then-not-is_base g c =
@@ -21,7 +21,7 @@ returns-then-not-is_base g c =
     let b = spelt c.args.base.now in
     let es = held c.args.self.now in
     let n = room c.args.self.now in
-    promised v b n n es (refused es 7) (no_base v b n es (sym c.if-not-is_base.ensures)) refl
+    promised v b n n es (refused es 7) (no_base v b n es (sym c.if-not-is_base.ensures)) refl refl
 
 pub returns-then-free-eq0 : goal.returns-then-free-eq0
 returns-then-free-eq0 g c =
@@ -29,7 +29,7 @@ returns-then-free-eq0 g c =
     let b = spelt c.args.base.now in
     let es = held c.args.self.now in
     let n = room c.args.self.now in
-    promised v b n n es (refused es 10) (no_room v b n es (sym c.if-not-is_base.ensures) (omega arith)) refl
+    promised v b n n es (refused es 10) (no_room v b n es (sym c.if-not-is_base.ensures) (omega arith)) refl refl
 
 pub returns-in_err-first : goal.returns-in_err-first
 returns-in_err-first g c =
@@ -40,7 +40,7 @@ returns-in_err-first g c =
     let o = refused (held c.look.new.self) (number_of c.in_err-first.field-0.0) in
     let p = err_from_is_err_and c.from_residual.result c.from_residual.ensures.1 in
     let is : answered c.from_residual.result (held c.look.new.self) ≡ o = rw (p.1, p.2) refl in
-    promised v b n _ es (answered c.from_residual.result (held c.look.new.self)) (is ∙ ends_at_once v b n es o (sym c.if-not-is_base.ensures) (omega arith) (c.in_err-first.ensures.follows 0)) c.look.ensures.room
+    promised v b n _ es (answered c.from_residual.result (held c.look.new.self)) (is ∙ ends_at_once v b n es o (sym c.if-not-is_base.ensures) (omega arith) (c.in_err-first.ensures.follows 0)) c.look.ensures.room c.look.ensures.slots
 
 pub returns-in-Some : goal.returns-in-Some
 returns-in-Some g c =
@@ -52,7 +52,7 @@ returns-in-Some g c =
     let was = c.in_ok-first.was ∙ ap Ok c.in-Some.is in
     let st = ap (λ r. looked r fs b 0) (sym was) ∙ c.look.ensures.follows 0 in
     let o = answered c.search_forms.result (held c.search_forms.new.self) in
-    promised v b n _ es o (c.search_forms.ensures.runs ∙ begins v b n es (next fs c.in-Some.first 0) (sym c.if-not-is_base.ensures) (omega arith) st) (c.search_forms.ensures.room ∙ c.look.ensures.room)
+    promised v b n _ es o (c.search_forms.ensures.runs ∙ begins v b n es (next fs c.in-Some.first 0) (sym c.if-not-is_base.ensures) (omega arith) st) (c.search_forms.ensures.room ∙ c.look.ensures.room) (c.search_forms.ensures.slots ∙ c.look.ensures.slots)
 
 pub returns-in-None : goal.returns-in-None
 returns-in-None g c =
@@ -63,4 +63,4 @@ returns-in-None g c =
     let fs = held c.look.new.self in
     let was = c.in_ok-first.was ∙ ap Ok c.in-None.is in
     let st = ap (λ r. looked r fs b 0) (sym was) ∙ c.look.ensures.follows 0 in
-    promised v b n _ es (granted fs b 0) (ends_at_once v b n es (granted fs b 0) (sym c.if-not-is_base.ensures) (omega arith) st) c.look.ensures.room
+    promised v b n _ es (granted fs b 0) (ends_at_once v b n es (granted fs b 0) (sym c.if-not-is_base.ensures) (omega arith) st) c.look.ensures.room c.look.ensures.slots

@@ -25,7 +25,8 @@ loop-probes-preserved g c =
       omega arith,
       going.2,
       c.look.ensures.room ∙ c.loop-probes.invariant.3,
-      turns v b es fs k j q c.loop-probes-test.true e ∙ c.loop-probes.invariant.4,
+      c.look.ensures.slots ∙ c.loop-probes.invariant.4,
+      turns v b es fs k j q c.loop-probes-test.true e ∙ c.loop-probes.invariant.5,
     )
 
 pub returns-in_err-k-clause-runs : goal.returns-in_err-k-clause-runs
@@ -40,7 +41,7 @@ returns-in_err-k-clause-runs g c =
     let o = refused fs (number_of c.in_err-k.field-0.0) in
     let e = at_form v b es k q d (done o) c.loop-probes.invariant.0.0 c.loop-probes.invariant.1 c.in-Some.ensures.2.spells (c.in_err-k.ensures.follows q) in
     let p = err_from_is_err_and c.from_residual.result c.from_residual.ensures.1 in
-    rw (p.1, p.2) (finds v b es k q o c.loop-probes-test.true e ∙ c.loop-probes.invariant.4)
+    rw (p.1, p.2) (finds v b es k q o c.loop-probes-test.true e ∙ c.loop-probes.invariant.5)
 
 pub returns-in-None-clause-runs : goal.returns-in-None-clause-runs
 returns-in-None-clause-runs g c =
@@ -54,10 +55,10 @@ returns-in-None-clause-runs g c =
     let was = c.in_ok-k.was ∙ ap Ok c.in-None.is in
     let o = granted fs d q in
     let e = at_form v b es k q d (done o) c.loop-probes.invariant.0.0 c.loop-probes.invariant.1 c.in-Some.ensures.2.spells (ap (λ r. looked r fs d q) (sym was) ∙ c.look.ensures.follows q) in
-    finds v b es k q o c.loop-probes-test.true e ∙ c.loop-probes.invariant.4
+    finds v b es k q o c.loop-probes-test.true e ∙ c.loop-probes.invariant.5
 
 pub returns-clause-runs : goal.returns-clause-runs
 returns-clause-runs g c =
     let v = g.P.Policy.vetoes c.args.policy.now in
     let b = spelt c.args.base.now in
-    runs_out v b (held c.loop-probes.self) c.loop-probes.conflict_index c.loop-probes.probes _ (omega arith) ∙ c.loop-probes.invariant.4
+    runs_out v b (held c.loop-probes.self) c.loop-probes.conflict_index c.loop-probes.probes _ (omega arith) ∙ c.loop-probes.invariant.5
