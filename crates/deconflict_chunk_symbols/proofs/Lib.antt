@@ -1,0 +1,4 @@
+mod Chained
+mod Turns
+mod Numbered
+mod Drawings

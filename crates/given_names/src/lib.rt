@@ -1,0 +1,24 @@
+// The names that symbols were given, in memory that the caller makes, hands over and gets back.
+#![tactic(auto)]
+
+ghost use Rattle.keyed_table.specs.Model.{Distinct};
+
+use keyed_table::slot::{Entry, Slot};
+use keyed_table::table::Table;
+use keys::refs::SymbolRef;
+use names::name::Name;
+
+pub mod methods;
+
+// A symbol with the name that it was given.
+pub type NamedSymbol = Entry<SymbolRef, Name>;
+
+// The memory of one name.
+pub type NameSlot = Slot<SymbolRef, Name>;
+
+#[derive(Drop)]
+pub struct GivenNames {
+    names: Table<SymbolRef, Name>,
+    // No symbol has two names.
+    ghost distinct: { Distinct names.entries },
+}

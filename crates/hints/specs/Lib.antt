@@ -1,0 +1,2 @@
+pub mod Hints
+pub mod Laws

@@ -1,0 +1,6 @@
+pub mod OwnModule
+pub mod InnerNames
+pub mod File
+pub mod Sets
+pub mod Held
+pub mod Laws

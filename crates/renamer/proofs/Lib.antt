@@ -1,0 +1,4 @@
+mod Endings
+mod Openings
+mod ShortNames
+mod Staying

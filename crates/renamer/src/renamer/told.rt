@@ -1,0 +1,67 @@
+// What an open session tells.
+ghost use Rattle.std.specs.Prelude.{◌≡◌, ◌<◌, length, MatchResult};
+ghost use Rattle.std.specs.List.{slice_get};
+ghost use Rattle.std.specs.Option.{option_map};
+ghost use Rattle.names.specs.Refusals.{number_of};
+ghost use Rattle.names.specs.Spelt.{spelt};
+ghost use Rattle.keys.specs.Refs.{symbol_under};
+ghost use Rattle.keyed_table.specs.Listed.{Listed};
+ghost use Rattle.conflict_resolver.specs.Held.{held};
+ghost use Rattle.conflict_resolver.specs.Rows.{record_of};
+ghost use Rattle.given_names.specs.Held.{entries_of, given_in};
+ghost use Rattle.renamer.specs.Printed.{printed_name};
+ghost use Rattle.renamer.specs.State.{chunk_in};
+
+use super::Renamer;
+use chunk_tables::chunk::Chunk;
+use conflict_resolver::resolver::NameRecord;
+use given_names::NamedSymbol;
+use keys::refs::SymbolRef;
+use names::name::Name;
+use names::refusal::Refusal;
+
+impl Renamer {
+    pub fn chunk(&self) -> &Chunk
+        ensures { result.now ≡ self.now.checked.chunk }
+    {
+        self.checked.chunk()
+    }
+
+    // The name that a reference to the symbol is printed as: the one that its printed symbol was given.
+    pub fn printed_name(&self, symbol: SymbolRef) -> Option<Name>
+        ensures { option_map spelt result ≡ printed_name (chunk_in self.now) (given_in self.now.canonical_names) symbol }
+    {
+        let chunk = self.checked.chunk();
+        chunk.symbol_at(symbol)?;
+        self.canonical_names
+            .name_of(chunk.canonical_ref_resolving_namespace(symbol))
+    }
+
+    // How many symbols have a name.
+    pub fn named(&self) -> usize
+        ensures { result ≡ length (given_in self.now.canonical_names) }
+    {
+        self.canonical_names.len()
+    }
+
+    // Writes the symbols with their names to the front of `out`, ascending by the symbols, and answers how many there are.
+    pub fn list(&self, out: &mut [NamedSymbol]) -> Result<usize, Refusal>
+        ensures { MatchResult result (Listed symbol_under (entries_of self.now.canonical_names) out.old out.new) (λ e. (number_of e ≡ 15) × (length out.old < length (given_in self.now.canonical_names)) × (out.new ≡ out.old)) }
+    {
+        self.canonical_names.list(out)
+    }
+
+    // How many names are on record.
+    pub fn records(&self) -> usize
+        ensures { result ≡ length (held self.now.resolver) }
+    {
+        self.resolver.len()
+    }
+
+    // The i-th record, in the order in which they were made.
+    pub fn record_at(&self, i: usize) -> Option<NameRecord>
+        ensures { option_map record_of result ≡ slice_get (held self.now.resolver) i }
+    {
+        self.resolver.record_at(i)
+    }
+}

@@ -1,0 +1,4 @@
+mod Appended
+mod Chained
+mod Long
+pub mod Ends

@@ -1,0 +1,29 @@
+-- What holds of names that are reserved one after another, before anything is on record. Assumes nothing.
+use Rattle.std.specs.Prelude.{◌≡◌, ℕ, Bool, true, false, cond, ◌⊎◌, List, [], length, Some, None}
+use Rattle.std.specs.List.{list_any}
+use Rattle.std.specs.Str.{bytes_eq}
+use Rattle.names.specs.Bases.{is_base}
+use Rattle.conflict_resolver.specs.Records.{Record, counter_of, Apart}
+use Rattle.conflict_resolver.specs.Rules.{made, declined}
+use Rattle.reservations.specs.Reserving.{reserve_each}
+
+-- n is one of the names
+abbrev pub among : List (List ℕ) → List ℕ → Bool
+among ns n = list_any (λ x. bytes_eq x n) ns
+
+-- where all are reserved, they are on record with counter 0, each once, and nothing else is
+abbrev pub ReservesTheNames : Type 0
+ReservesTheNames = (most : ℕ) (ns : List (List ℕ)) (es : List Record) → reserve_each most [] ns ≡ made es
+    → Apart es × ((n : List ℕ) → counter_of es n ≡ cond (among ns n) (Some 0) None)
+
+-- they are refused because one of them is no base, or because as many names are on record as may be, and one of them is not
+abbrev pub RefusedForCause : Type 0
+RefusedForCause = (most : ℕ) (ns : List (List ℕ)) (es : List Record) (why : ℕ) → reserve_each most [] ns ≡ declined es why
+    → ((why ≡ 7) × ((n : List ℕ) × (among ns n ≡ true) × (is_base n ≡ false)))
+    ⊎ ((why ≡ 10) × (length es ≡ most) × ((n : List ℕ) × (among ns n ≡ true) × (counter_of es n ≡ None)))
+
+-- so bases are refused in the second case only
+abbrev pub BasesRefusedWhereFull : Type 0
+BasesRefusedWhereFull = (most : ℕ) (ns : List (List ℕ)) (es : List Record) (why : ℕ) → ((n : List ℕ) → among ns n ≡ true → is_base n ≡ true)
+    → reserve_each most [] ns ≡ declined es why
+    → (why ≡ 10) × (length es ≡ most) × ((n : List ℕ) × (among ns n ≡ true) × (counter_of es n ≡ None))

@@ -1,0 +1,77 @@
+-- What each call keeps. Assumes nothing.
+use Rattle.std.proofs.Common.{◌≡◌, ℕ, true, ◌⊎◌, List, is_some, Some, None, sym, ap, ◌∙◌, inl, inr}
+use Rattle.keys.specs.declared.refs.SymbolRef.{SymbolRef}
+use Rattle.chunk_tables.specs.Links.{symbol_at, canonical}
+use Rattle.chunk_tables.specs.Model.{Name, Symbol, Chunk}
+use Rattle.conflict_resolver.specs.Laws.{Candidate}
+use Rattle.conflict_resolver.specs.Records.{Record, counter_of}
+use Rattle.session_rules.specs.Calls.{Call}
+use Rattle.session_rules.specs.Laws.{Opened}
+use Rattle.session_rules.specs.Rules.{Told, to_symbol}
+use Rattle.session_rules.specs.Session.{Given, Session, name_of}
+use Rattle.session_rules.proofs.Lasting.{Later, later_same, later_kept, later_granted, still, unlike}
+use Rattle.session_rules.proofs.Names.{name_stays, name_comes}
+use Rattle.session_rules.proofs.Steps.{Adds, for_helper, for_caller, for_symbol, Step, gives, repeats, agrees, refuses}
+
+-- given names whose records are lost in no step: they stay as they are, or one is added
+grown_records : (c : Chunk) (S : Session) (es : List Record) → Later S.records es → Opened c S → Opened c (record { records = es; given = S.given })
+grown_records c S es l o = record {
+  recorded = λ q n e. still S.records es n l (o.recorded q n e);
+  apart = o.apart;
+  own = o.own;
+}
+
+module _ (c : Chunk) (S : Session) (o : Opened c S) (es : List Record) (l : Later S.records es) (q : SymbolRef) (n : Name) (p : ℕ)
+    (y : Symbol) (stands : symbol_at c q ≡ Some y) (is : Candidate y.name n p) (unrecorded : counter_of S.records n ≡ None) (recorded : counter_of es n ≡ Some 0) where
+  -- a name that a symbol had is another than the new one
+  differs : (r : SymbolRef) (m : Name) → name_of S.given r ≡ Some m → m ≡ n → ⊥
+  differs r m e = unlike S.records n m unrecorded (o.recorded r m e)
+
+  added_name : Opened c (record { records = es; given = to_symbol q n S.given })
+  added_name = record {
+    recorded = λ r m e. on_record r m (name_comes S.given q r n m e);
+    apart = λ r s m k ne e f. apart r s m k ne (name_comes S.given q r n m e) (name_comes S.given q s n k f);
+    own = λ r m e. own r m (name_comes S.given q r n m e);
+  }
+    where
+      on_record : (r : SymbolRef) (m : Name) → (name_of S.given r ≡ Some m) ⊎ ((q ≡ r) × (n ≡ m)) → is_some (counter_of es m) ≡ true
+      on_record r m (inl e) = still S.records es m l (o.recorded r m e)
+      on_record r m (inr e) = ap (λ d. is_some (counter_of es d)) (sym e.1) ∙ ap is_some recorded
+
+      apart : (r s : SymbolRef) (m k : Name) → (r ≡ s → ⊥) → (name_of S.given r ≡ Some m) ⊎ ((q ≡ r) × (n ≡ m)) → (name_of S.given s ≡ Some k) ⊎ ((q ≡ s) × (n ≡ k)) → m ≡ k → ⊥
+      apart r s m k ne (inl e) (inl f) g = o.apart r s m k ne e f g
+      apart r s m k ne (inl e) (inr f) g = differs r m e (g ∙ sym f.1)
+      apart r s m k ne (inr e) (inl f) g = differs s k f (sym g ∙ sym e.1)
+      apart r s m k ne (inr e) (inr f) g = ne (sym e.0 ∙ f.0)
+
+      own : (r : SymbolRef) (m : Name) → (name_of S.given r ≡ Some m) ⊎ ((q ≡ r) × (n ≡ m)) → (z : Symbol) × (symbol_at c r ≡ Some z) × (k : ℕ) × Candidate z.name m k
+      own r m (inl e) = o.own r m e
+      own r m (inr e) = (y, ap (symbol_at c) (sym e.0) ∙ stands, p, rw e.1 at is)
+
+module _ (c : Chunk) (S : Session) (x : Call) where
+  -- nothing is lost
+  pub keeps_records : {t : Told} → Step c S x t → Later S.records t.after.records
+  keeps_records (gives b n p es gs is g l a) = later_granted _ b S.records es n p g
+  keeps_records (repeats q k n is e) = later_same S.records
+  keeps_records (agrees n es is h) = h.later
+  keeps_records (refuses es why r l) = later_kept S.records es r.kept
+
+  adds_no_change : (q : SymbolRef) (m n : Name) (p : ℕ) {y : Call} {gs : List Given} → Adds c S n p y gs → name_of S.given q ≡ Some m → name_of gs q ≡ Some m
+  adds_no_change q m n p (for_helper b) e = e
+  adds_no_change q m n p (for_caller v b) e = e
+  adds_no_change q m n p (for_symbol r k y stands none is) e = name_stays S.given (canonical c r) q n m e
+
+  pub keeps_names : (q : SymbolRef) (m : Name) {t : Told} → Step c S x t → name_of S.given q ≡ Some m → name_of t.after.given q ≡ Some m
+  keeps_names q m (gives b n p es gs is g l a) e = adds_no_change q m n p a e
+  keeps_names q m _ e = e
+
+  pub keeps_opened : {t : Told} → Step c S x t → Opened c S → Opened c t.after
+  keeps_opened (gives b n p es gs is g m a) o = on (later_granted _ b S.records es n p g) a
+    where
+      on : Later S.records es → {y : Call} {gs : List Given} → Adds c S n p y gs → Opened c (record { records = es; given = gs })
+      on l (for_helper b) = grown_records c S es l o
+      on l (for_caller v b) = grown_records c S es l o
+      on l (for_symbol q k y stands none cand) = added_name c S o es l (canonical c q) n p y stands cand g.unrecorded g.recorded
+  keeps_opened (repeats q k n is e) o = o
+  keeps_opened (agrees n es is h) o = grown_records c S es h.later o
+  keeps_opened (refuses es why r l) o = grown_records c S es (later_kept S.records es r.kept) o

@@ -1,0 +1,9 @@
+pub mod Lasting
+pub mod Names
+pub mod Steps
+pub mod Effects
+pub mod Runs
+pub mod Origins
+pub mod ByAnswer
+pub mod Lawful
+pub mod WorkedCalls
