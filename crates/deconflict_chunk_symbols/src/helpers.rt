@@ -39,7 +39,10 @@ fn draw_helper(renamer: &mut Renamer, place: usize) -> Result<RequireName, Refus
 }
 
 // A helper for each other chunk. Their names go to the front of `helpers`, and what stands behind them stays.
-pub fn draw_helpers(renamer: &mut Renamer, helpers: &mut [RequireName]) -> Result<(), Refusal>
+pub(crate) fn draw_helpers(
+    renamer: &mut Renamer,
+    helpers: &mut [RequireName],
+) -> Result<(), Refusal>
     requires { length (chunk_in renamer.old).others ≤ length helpers.old }
     ensures performs { Performs renamer.old renamer.new result helper_calls }
     ensures names { OnOk result (map drawn_as helpers.new ≡ drawn (chunk_in renamer.old) (session_of renamer.old) (chunk_in renamer.old).others ++ map drawn_as (drop (length (chunk_in renamer.old).others) helpers.old)) }
