@@ -62,6 +62,13 @@ impl NestedScopeRenamer {
         self.renamer.printed_name(symbol)
     }
 
+    // How many symbols have a name.
+    pub fn named(&self) -> usize
+        ensures { result ≡ length (given_in self.now.renamer.canonical_names) }
+    {
+        self.renamer.named()
+    }
+
     // Writes the symbols with their names to the front of `out`, ascending by the symbols, and answers how many there are.
     pub fn list(&self, out: &mut [NamedSymbol]) -> Result<usize, Refusal>
         ensures { MatchResult result (Listed symbol_under (entries_of self.now.renamer.canonical_names) out.old out.new) (λ e. (number_of e ≡ 15) × (length out.old < length (given_in self.now.renamer.canonical_names)) × (out.new ≡ out.old)) }

@@ -1,0 +1,141 @@
+// The lines of the output. A name need not be UTF-8, so it is written by its bytes.
+use chunk_faults::sizes::MemorySizes;
+use chunk_text::fault::Fault;
+use conflict_resolver::resolver::{NameRecord, Resolved};
+use given_names::NamedSymbol;
+use keys::refs::SymbolRef;
+use names::name::Name;
+use names::refusal::Refusal;
+use renamer::renamer::Renamer;
+use renamer::renamer::naming::RootName;
+use std::alloc::{AllocError, Global};
+use std::io::{self, Write};
+
+pub fn fault(line: usize, fault: Fault, out: &mut Vec<u8>) -> io::Result<()> {
+    writeln!(out, "line {line}: {fault}")
+}
+
+pub fn refused(refusal: Refusal, out: &mut Vec<u8>) -> io::Result<()> {
+    writeln!(out, "refused {} {refusal}", refusal.number())
+}
+
+pub fn done(out: &mut Vec<u8>) -> io::Result<()> {
+    writeln!(out, "done")
+}
+
+// What memory is given back.
+pub fn memory(sizes: &MemorySizes, out: &mut Vec<u8>) -> io::Result<()> {
+    write!(out, "memory {} {}", sizes.records, sizes.names)?;
+    writeln!(out, " {} {} {}", sizes.inner, sizes.marks, sizes.helpers)
+}
+
+// A call and the text that it is about.
+fn begin(verb: &[u8], text: &[u8], out: &mut Vec<u8>) -> io::Result<()> {
+    out.write_all(verb)?;
+    out.write_all(b" ")?;
+    out.write_all(text)?;
+    out.write_all(b" ")
+}
+
+pub fn text_refused(
+    verb: &[u8],
+    text: &[u8],
+    refusal: Refusal,
+    out: &mut Vec<u8>,
+) -> io::Result<()> {
+    begin(verb, text, out)?;
+    refused(refusal, out)
+}
+
+fn found(resolved: &Resolved, out: &mut Vec<u8>) -> io::Result<()> {
+    out.write_all(resolved.name.as_bytes())?;
+    writeln!(out, " {}", resolved.probes)
+}
+
+pub fn search(
+    verb: &[u8],
+    text: &[u8],
+    answer: Result<Resolved, Refusal>,
+    out: &mut Vec<u8>,
+) -> io::Result<()> {
+    begin(verb, text, out)?;
+    match answer {
+        Ok(resolved) => found(&resolved, out),
+        Err(refusal) => refused(refusal, out),
+    }
+}
+
+// A name at the end of a line.
+fn end_with(name: &Name, out: &mut Vec<u8>) -> io::Result<()> {
+    out.write_all(name.as_bytes())?;
+    out.write_all(b"\n")
+}
+
+pub fn root(
+    symbol: SymbolRef,
+    answer: Result<RootName, Refusal>,
+    out: &mut Vec<u8>,
+) -> io::Result<()> {
+    write!(out, "root {}.{} ", symbol.owner, symbol.symbol)?;
+    match answer {
+        Ok(RootName::Given(resolved)) => found(&resolved, out),
+        Ok(RootName::Already(name)) => {
+            out.write_all(b"has ")?;
+            end_with(&name, out)
+        }
+        Err(refusal) => refused(refusal, out),
+    }
+}
+
+pub fn printed(symbol: SymbolRef, name: Option<Name>, out: &mut Vec<u8>) -> io::Result<()> {
+    match name {
+        Some(name) => {
+            write!(out, "printed {}.{} ", symbol.owner, symbol.symbol)?;
+            end_with(&name, out)
+        }
+        None => writeln!(out, "unnamed {}.{}", symbol.owner, symbol.symbol),
+    }
+}
+
+// Rows to be written over.
+pub fn blank_rows(heap: Global, count: usize) -> Result<Vec<NamedSymbol>, AllocError> {
+    let Ok(value) = Name::new(b"") else {
+        unreachable()
+    };
+    let key = SymbolRef {
+        owner: 0,
+        symbol: 0,
+    };
+    vec![in heap; NamedSymbol { key, value }; count]
+}
+
+// The named symbols, ascending by module and number.
+pub fn names(
+    count: Result<usize, Refusal>,
+    rows: &[NamedSymbol],
+    out: &mut Vec<u8>,
+) -> io::Result<()> {
+    if let Err(refusal) = count {
+        out.write_all(b"names ")?;
+        return refused(refusal, out);
+    }
+    for row in rows {
+        write!(out, "name {} {} ", row.key.owner, row.key.symbol)?;
+        end_with(&row.value, out)?;
+    }
+    Ok(())
+}
+
+// The records, ascending by the bytes of their names.
+pub fn records(heap: Global, renamer: &Renamer, out: &mut Vec<u8>) -> io::Result<()> {
+    let mut rows: Vec<NameRecord> = (0..renamer.records())
+        .filter_map(|i| renamer.record_at(i))
+        .collect(heap)?;
+    rows.sort_unstable_by_key(|row| row.key);
+    for row in &rows {
+        out.write_all(b"record ")?;
+        out.write_all(row.key.as_bytes())?;
+        writeln!(out, " {}", row.value)?;
+    }
+    Ok(())
+}
