@@ -306,38 +306,8 @@ def answer_chunk(chunk):
     return answer + [b"done"]
 
 
-# These two are tables.py's, with this file's reader and answers.
-
-
-def answer_document(first, lines):
-    """The answer to the document whose first line is the line `first` of the input."""
-    reader = Reader()
-    for place, line in enumerate(lines):
-        try:
-            reader.line(line)
-        except tables.Faulty as faulty:
-            return [b"line %d: %s" % (first + place, faulty.words)]
-    if reader.module is not None:
-        return [b"line %d: %s" % (first + len(lines), tables.NO_END)]
-    return answer_chunk(reader.chunk)
-
-
 def answer_text(text):
-    lines = text.split(b"\n")
-    if len(lines) > 1 and lines[-1] == b"":
-        lines.pop()     # a line end at the very end begins no line
-    answer = []
-    first, document = 1, []
-    for place, line in enumerate(lines, 1):
-        if line.lstrip(b" ") == b"---":
-            if document:
-                answer += answer_document(first, document)
-            first, document = place + 1, []
-        else:
-            document.append(line)
-    if document:
-        answer += answer_document(first, document)
-    return b"".join(line + b"\n" for line in answer)
+    return tables.answer_text(text, Reader, answer_chunk)
 
 
 # ---------------------------------------------------------------- worked cases

@@ -10,7 +10,6 @@ the same text.
 """
 import importlib.util
 import os
-import random
 import sys
 
 HERE = os.path.dirname(os.path.abspath(__file__))
@@ -135,16 +134,11 @@ class Builder(old.Builder):
     def lines(self):
         rng = self.rng
         count = len(self.mods)
-        joined = [m for m in range(count) if not self.mods[m]["external"] and self.chance(0.9)]
-        rng.shuffle(joined)
-        joined.sort(key=lambda m: self.mods[m]["order"])
+        joined = self.in_order(0.9)
         externals = [m for m in range(count) if self.mods[m]["external"]]
         if count and (not externals or self.chance(0.1)):
             externals.append(rng.randrange(count))
         of_externals = [pair for pair in self.pairs if pair[0] in externals and self.symbol(self.canonical(pair))["scope"] == 0]
-
-        def some(items, most):
-            return [rng.choice(items) for _ in range(rng.randint(0, most))] if items else []
 
         others, number = [], 0
         for _ in range(rng.choice([0, 1, 1, 2, 3])):
@@ -162,7 +156,7 @@ class Builder(old.Builder):
         if count and self.chance(0.25):
             heads.append(["runtime", rng.randrange(count)])
         rng.shuffle(heads)
-        globals_ = some(GLOBALS + BASES + ["now$1", "now$2", "hours$1", "oil$1", "require_alarms$1"], 4)
+        globals_ = self.some(GLOBALS + BASES + ["now$1", "now$2", "hours$1", "oil$1", "require_alarms$1"], 4)
         if self.sequence:
             globals_ += [self.sequence[0]] + ["%s$%d" % (self.sequence[0], k) for k, kind in self.sequence[1] if kind == 0]
         synthetic = self.some_pairs(3)
@@ -170,21 +164,10 @@ class Builder(old.Builder):
             base = self.sequence[0]
             found = [pair for pair in self.roots() if self.symbol(pair)["name"] == base and not self.symbol(pair).get("link")]
             synthetic += found[:3]
-        blocks = [self.block(mod) for mod in self.mods]
-        merged = self.merge([
-            [[line] for line in heads],
-            blocks,
-            [[line] for line in self.split("globals", globals_)],
-            [[line] for line in self.split("chunk", joined)],
-            [[line] for line in self.split("direct", some(externals, 3))],
-            [[line] for line in self.split("entry_externals", some(externals, 2))],
-            [[line] for line in self.split("indirect", some(externals, 2))],
-            [[["entry", pair] + (["cjs"] if self.chance(0.25) else [])] for pair in self.some_pairs(3)],
-            [[line] for line in self.split("used", some(of_externals or self.roots(), 5))],
-            [[line] for line in self.split("synthetic", synthetic)],
-            [[line] for line in others],
-        ])
-        return [line for block in merged for line in block]
+        lists = [("globals", globals_), ("chunk", joined), ("direct", self.some(externals, 3)),
+                 ("entry_externals", self.some(externals, 2)), ("indirect", self.some(externals, 2)),
+                 ("used", self.some(of_externals or self.roots(), 5)), ("synthetic", synthetic)]
+        return self.laid_out(heads, lists, self.some_pairs(3), others)
 
 
 def document(rng):
@@ -194,27 +177,8 @@ def document(rng):
     texts = [" ".join(old.text_of(word) for word in line) for line in lines]
     if rng.random() < 0.003:
         old.spoil(rng, texts)
-    inside, result = False, []
-    indent = rng.random() < 0.6
-    for text in texts:
-        if text == "end":
-            inside = False
-        result.append("  " + text if indent and inside else text)
-        if text.startswith("module "):
-            inside = True
-    return result or ["# nothing"]
-
-
-def main():
-    seed, count = int(sys.argv[1]), int(sys.argv[2])
-    rng = random.Random(seed)
-    out = []
-    for number in range(count):
-        if number:
-            out.append("---")
-        out += document(rng)
-    sys.stdout.buffer.write(("\n".join(out) + "\n").encode())
+    return old.set_out(rng, texts, False)
 
 
 if __name__ == "__main__":
-    main()
+    old.main(document)

@@ -198,22 +198,34 @@ class Builder:
             items = items[size:]
         return lines
 
+    def some(self, items, most):
+        return [self.rng.choice(items) for _ in range(self.rng.randint(0, most))] if items else []
+
+    def in_order(self, share):
+        """This share of the normal modules, by execution order."""
+        normal = [m for m, mod in enumerate(self.mods) if not mod["external"] and self.chance(share)]
+        self.rng.shuffle(normal)
+        normal.sort(key=lambda m: self.mods[m]["order"])
+        return normal
+
+    def laid_out(self, heads, lists, entry, others):
+        """The lines of a chunk in any order; the lines of one list stay in theirs."""
+        blocks = [self.block(mod) for mod in self.mods]
+        rows = [[[line] for line in self.split(word, items)] for word, items in lists]
+        entries = [[["entry", pair] + (["cjs"] if self.chance(0.3) else [])] for pair in entry]
+        merged = self.merge([[[line] for line in heads], blocks] + rows + [entries, [[line] for line in others]])
+        return [line for block in merged for line in block]
+
     def lines(self):
         rng = self.rng
         count = len(self.mods)
-        normal = [m for m in range(count) if not self.mods[m]["external"] and self.chance(0.85)]
-        rng.shuffle(normal)
-        normal.sort(key=lambda m: self.mods[m]["order"])
+        normal = self.in_order(0.85)
         externals = [m for m in range(count) if self.mods[m]["external"]] or list(range(count))
-
-        def some(items, most):
-            return [rng.choice(items) for _ in range(rng.randint(0, most))] if items else []
-
         others, number = [], 0
         for _ in range(rng.choice([0, 0, 1, 2, 3])):
             number += rng.randint(0 if number == 0 else 1, 3)
             name = long_name(rng, 92) if self.chance(0.03) else rng.choice(CHUNK_NAMES)
-            others.append(["other", number, name] + some(self.pairs, 2))
+            others.append(["other", number, name] + self.some(self.pairs, 2))
             number = max(number, 1)
         if len(others) > 1 and others[0][1] == 1 and others[1][1] == 1:
             others[0][1] = 0
@@ -228,21 +240,10 @@ class Builder:
         if count and self.chance(0.3):
             heads.append(["runtime", rng.randrange(count)])
         rng.shuffle(heads)
-        blocks = [self.block(mod) for mod in self.mods]
-        merged = self.merge([
-            [[line] for line in heads],
-            blocks,
-            [[line] for line in self.split("globals", some(GLOBALS, 3))],
-            [[line] for line in self.split("chunk", normal)],
-            [[line] for line in self.split("direct", some(externals, 2))],
-            [[line] for line in self.split("entry_externals", some(externals, 1))],
-            [[line] for line in self.split("indirect", some(externals, 1))],
-            [[["entry", pair] + (["cjs"] if self.chance(0.3) else [])] for pair in some(self.pairs, 2)],
-            [[line] for line in self.split("used", some(self.pairs, 2))],
-            [[line] for line in self.split("synthetic", some(self.pairs, 2))],
-            [[line] for line in others],
-        ])
-        return [line for block in merged for line in block]
+        lists = [("globals", self.some(GLOBALS, 3)), ("chunk", normal), ("direct", self.some(externals, 2)),
+                 ("entry_externals", self.some(externals, 1)), ("indirect", self.some(externals, 1)),
+                 ("used", self.some(self.pairs, 2)), ("synthetic", self.some(self.pairs, 2))]
+        return self.laid_out(heads, lists, self.some(self.pairs, 2), others)
 
 
 # ---------------------------------------------------------------- changes
@@ -499,6 +500,21 @@ def text_of(word):
     return "%d.%d" % word if isinstance(word, tuple) else str(word)
 
 
+def set_out(rng, texts, noise):
+    """The lines of a document: with or without spaces in front of a module's lines, and with comments among them."""
+    inside, result = False, []
+    indent = rng.random() < 0.6
+    for text in texts:
+        if noise and rng.random() < 0.1:
+            result.append(rng.choice(["", "  ", "# a comment", "   #  spaces  in  it ", "#"]))
+        if text == "end":
+            inside = False
+        result.append("  " + text if indent and inside else text)
+        if text.startswith("module "):
+            inside = True
+    return result or ["# nothing"]
+
+
 def document(rng):
     lines = Builder(rng).build()
     changer = Changer(rng, lines)
@@ -511,23 +527,10 @@ def document(rng):
     texts = [" ".join(text_of(word) for word in line) for line in lines]
     for _ in range(spoils):
         spoil(rng, texts)
-    inside, result = False, []
-    indent = rng.random() < 0.6
-    noise = rng.random() < 0.2
-    for text in texts:
-        if noise and rng.random() < 0.1:
-            result.append(rng.choice(["", "  ", "# a comment", "   #  spaces  in  it ", "#"]))
-        if text == "end":
-            inside = False
-        result.append("  " + text if indent and inside else text)
-        if text.startswith("module "):
-            inside = True
-    if not result:
-        result.append("# nothing")
-    return result
+    return set_out(rng, texts, rng.random() < 0.2)
 
 
-def main():
+def main(document):
     seed, count = int(sys.argv[1]), int(sys.argv[2])
     rng = random.Random(seed)
     out = []
@@ -535,8 +538,8 @@ def main():
         if number:
             out.append("---" if rng.random() < 0.95 else " ---")
         out += document(rng)
-    sys.stdout.write("\n".join(out) + "\n")
+    sys.stdout.buffer.write(("\n".join(out) + "\n").encode())
 
 
 if __name__ == "__main__":
-    main()
+    main(document)

@@ -125,6 +125,13 @@ class Faulty(Exception):
         self.words = words
 
 
+def once(given, value):
+    """The value of what can be given once only."""
+    if given is not None:
+        raise Faulty(TWICE)
+    return value
+
+
 def number_or_none(word):
     if len(word) == 0:
         return None
@@ -187,26 +194,15 @@ class Reader:
     def chunk_line(self, first, rest):
         chunk = self.chunk
         if first == b"format":
-            if chunk.format is not None:
-                raise Faulty(TWICE)
-            chunk.format = FORMATS.get(rest[0], 0)
+            chunk.format = once(chunk.format, FORMATS.get(rest[0], 0))
         elif first == b"records":
-            value = read_number(rest[0])
-            if chunk.records is not None:
-                raise Faulty(TWICE)
-            chunk.records = value
+            chunk.records = once(chunk.records, read_number(rest[0]))
         elif first == b"memory":
-            values = [read_number(word) for word in rest]
-            if chunk.memory is not None:
-                raise Faulty(TWICE)
-            chunk.memory = values
+            chunk.memory = once(chunk.memory, [read_number(word) for word in rest])
         elif first == b"globals":
             chunk.globals += rest
         elif first == b"runtime":
-            value = read_number(rest[0])
-            if chunk.runtime is not None:
-                raise Faulty(TWICE)
-            chunk.runtime = value
+            chunk.runtime = once(chunk.runtime, read_number(rest[0]))
         elif first == b"module":
             kind = read_word(rest[0], (b"normal", b"external"))
             order = read_number(rest[1])
@@ -512,9 +508,9 @@ def answer_chunk(chunk):
     return answer
 
 
-def answer_document(first, lines):
+def answer_document(first, lines, make_reader, answer):
     """The answer to the document whose first line is the line `first` of the input."""
-    reader = Reader()
+    reader = make_reader()
     for place, line in enumerate(lines):
         try:
             reader.line(line)
@@ -522,25 +518,25 @@ def answer_document(first, lines):
             return [b"line %d: %s" % (first + place, faulty.words)]
     if reader.module is not None:
         return [b"line %d: %s" % (first + len(lines), NO_END)]
-    return answer_chunk(reader.chunk)
+    return answer(reader.chunk)
 
 
-def answer_text(text):
+def answer_text(text, make_reader=Reader, answer=answer_chunk):
     lines = text.split(b"\n")
     if len(lines) > 1 and lines[-1] == b"":
         lines.pop()     # a line end at the very end begins no line
-    answer = []
+    answers = []
     first, document = 1, []
     for place, line in enumerate(lines, 1):
         if line.lstrip(b" ") == b"---":
             if document:
-                answer += answer_document(first, document)
+                answers += answer_document(first, document, make_reader, answer)
             first, document = place + 1, []
         else:
             document.append(line)
     if document:
-        answer += answer_document(first, document)
-    return b"".join(line + b"\n" for line in answer)
+        answers += answer_document(first, document, make_reader, answer)
+    return b"".join(line + b"\n" for line in answers)
 
 
 if __name__ == "__main__":
