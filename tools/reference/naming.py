@@ -18,6 +18,7 @@ REFUSED.update({
     10: b"no free record",
     11: b"a number would pass 9999",
     12: b"more than 4096 probes would be needed",
+    15: b"the buffer is too short",
 })
 
 RESERVED_WORDS = b"""
@@ -215,6 +216,7 @@ class Session:
         self.file_policy = file_policy(inner_names(chunk))
 
     def name_symbol(self, pair, kind):
+        """The name of the canonical symbol, and the number of probes, or None if it has the name already."""
         chunk = self.chunk
         if symbol_of(chunk, pair) is None:
             raise Refused(8)
@@ -223,17 +225,19 @@ class Session:
         if symbol.scope != 0:
             raise Refused(9)
         if pair in self.names:
-            return
+            return self.names[pair], None
         policy = self.file_policy
         if kind == AUTHORED:
             policy = own_module_policy(chunk.modules[pair[0]])
-        self.names[pair] = self.records.resolve(symbol.name, policy)[0]
+        self.names[pair], probes = self.records.resolve(symbol.name, policy)
+        return self.names[pair], probes
 
     def name_by_kind(self, pair):
-        self.name_symbol(pair, root_binding_kind(self.chunk, pair))
+        return self.name_symbol(pair, root_binding_kind(self.chunk, pair))
 
     def name_helper(self, base):
-        return self.records.resolve(base, self.file_policy)[0]
+        """The name, and the number of probes."""
+        return self.records.resolve(base, self.file_policy)
 
     def run(self):
         """Everything in front of the repair. Returns the names of the helpers."""
@@ -281,29 +285,41 @@ class Session:
             for pair in imported:
                 self.name_by_kind(pair)
 
-        return [self.name_helper(hint(name)) for number, name, imported in chunk.others]
+        return [self.name_helper(hint(name))[0] for number, name, imported in chunk.others]
 
 
 # ---------------------------------------------------------------- the answers
 
 
+def refusal(refused):
+    return b"refused %d %s" % (refused.number, REFUSED[refused.number])
+
+
+def name_lines(session):
+    return [b"name %d %d %s" % (m, s, name) for (m, s), name in sorted(session.names.items())]
+
+
+def record_lines(session):
+    return [b"record %s %d" % record for record in sorted(session.records.counters.items())]
+
+
+def opened(chunk):
+    faults = tables.faults_of(chunk)
+    if faults:
+        raise Refused(min(faults)[2])
+    return Session(chunk)
+
+
 def answer_chunk(chunk):
     try:
-        faults = tables.faults_of(chunk)
-        if faults:
-            raise Refused(min(faults)[2])
-        session = Session(chunk)
+        session = opened(chunk)
         helpers = session.run()
     except Refused as refused:
-        return [b"refused %d %s" % (refused.number, REFUSED[refused.number]), b"done"]
-    answer = []
-    for (m, s), name in sorted(session.names.items()):
-        answer.append(b"name %d %d %s" % (m, s, name))
+        return [refusal(refused), b"done"]
+    answer = name_lines(session)
     for (number, _, _), helper in zip(chunk.others, helpers):
         answer.append(b"helper %d %s" % (number, helper))
-    for name, counter in sorted(session.records.counters.items()):
-        answer.append(b"record %s %d" % (name, counter))
-    return answer + [b"done"]
+    return answer + record_lines(session) + [b"done"]
 
 
 def answer_text(text):

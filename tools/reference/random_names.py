@@ -21,7 +21,7 @@ spec.loader.exec_module(old)
 BASES = ["now", "hours", "oil", "status", "render", "gateway", "require_alarms", "require_pages_oil"]
 FEW = BASES[:3] + ["require_alarms"]
 RESERVED = ["default", "await", "exports", "module", "require", "Object", "Promise", "URL", "Symbol", "__filename"]
-GLOBALS = ["window", "document", "fetch", "console"]
+GLOBALS = ["window", "screen", "fetch", "console"]
 CHUNK_NAMES = ["alarms", "alarms", "pages/oil", "pages-oil", "pages_oil", "hours.of-shift", "\u00f6l", "a$1", "x"]
 
 

@@ -10,7 +10,7 @@ import sys
 
 NAMES = ["now", "clock", "hours", "oil", "status", "render", "level", "pump", "valve", "alarm", "shift", "feed",
          "now$1", "now$2", "read", "write", "gateway", "exports", "module", "require", "Object", "Promise", "URL"]
-GLOBALS = ["window", "document", "console", "fetch", "setTimeout"] + NAMES
+GLOBALS = ["window", "screen", "console", "fetch", "setTimeout"] + NAMES
 CHUNK_NAMES = ["alarms", "reports", "pages/oil", "hours-of-shift", "a.b", "7", "x"]
 
 

@@ -521,21 +521,27 @@ def answer_document(first, lines, make_reader, answer):
     return answer(reader.chunk)
 
 
-def answer_text(text, make_reader=Reader, answer=answer_chunk):
+def documents(text):
+    """The number of the first line of each document, and its lines."""
     lines = text.split(b"\n")
     if len(lines) > 1 and lines[-1] == b"":
         lines.pop()     # a line end at the very end begins no line
-    answers = []
     first, document = 1, []
     for place, line in enumerate(lines, 1):
         if line.lstrip(b" ") == b"---":
             if document:
-                answers += answer_document(first, document, make_reader, answer)
+                yield first, document
             first, document = place + 1, []
         else:
             document.append(line)
     if document:
-        answers += answer_document(first, document, make_reader, answer)
+        yield first, document
+
+
+def answer_text(text, make_reader=Reader, answer=answer_chunk):
+    answers = []
+    for first, lines in documents(text):
+        answers += answer_document(first, lines, make_reader, answer)
     return b"".join(line + b"\n" for line in answers)
 
 

@@ -9,4 +9,4 @@ pub mod fault;
 mod module_lines;
 mod rows;
 mod verbs;
-mod words;
+pub mod words;

@@ -65,7 +65,7 @@ pub fn no_word(words: &[&[u8]]) -> Result<(), Fault>
 }
 
 // A mark stands alone.
-pub fn mark(words: &[&[u8]]) -> Result<bool, Fault>
+pub(crate) fn mark(words: &[&[u8]]) -> Result<bool, Fault>
     ensures { result ≡ mark (map (λ w. w.now) words.now) }
 {
     no_word(words)?;
@@ -83,14 +83,14 @@ pub fn only_word<'a>(words: &[&'a [u8]]) -> Result<&'a [u8], Fault>
 }
 
 // The one number that there is.
-pub fn only_number(words: &[&[u8]]) -> Result<u32, Fault>
+pub(crate) fn only_number(words: &[&[u8]]) -> Result<u32, Fault>
     ensures { result ≡ only_number (map (λ w. w.now) words.now) }
 {
     number_in(only_word(words)?)
 }
 
 // Puts what each word says behind the rows.
-pub fn add_each<T: Drop, R: Fn(&[u8]) -> Result<T, Fault>>(
+pub(crate) fn add_each<T: Drop, R: Fn(&[u8]) -> Result<T, Fault>>(
     rows: &mut Vec<T>,
     words: &[&[u8]],
     read: R,
@@ -105,7 +105,11 @@ pub fn add_each<T: Drop, R: Fn(&[u8]) -> Result<T, Fault>>(
 }
 
 // Puts each word behind the names.
-pub fn add_names(heap: Global, names: &mut Vec<Vec<u8>>, words: &[&[u8]]) -> Result<(), ReadError>
+pub(crate) fn add_names(
+    heap: Global,
+    names: &mut Vec<Vec<u8>>,
+    words: &[&[u8]],
+) -> Result<(), ReadError>
     ensures { Gives (λ _. map vec_items names.new.items) result (Ok (map vec_items names.old.items ++ map (λ w. w.now) words.now)) }
 {
     for word in words {
@@ -115,7 +119,7 @@ pub fn add_names(heap: Global, names: &mut Vec<Vec<u8>>, words: &[&[u8]]) -> Res
 }
 
 // Gives what is given once.
-pub fn once<T: Copy>(slot: &mut Option<T>, value: T) -> Result<(), Fault>
+pub(crate) fn once<T: Copy>(slot: &mut Option<T>, value: T) -> Result<(), Fault>
     ensures { Reads (λ _. slot.new) result (once slot.old value) }
 {
     if slot.is_some() {
@@ -126,7 +130,7 @@ pub fn once<T: Copy>(slot: &mut Option<T>, value: T) -> Result<(), Fault>
 }
 
 // What a line is whose first word stands in a table of such words.
-pub fn find_verb<V: Copy>(verbs: &[(&[u8], V)], word: &[u8]) -> Result<V, Fault>
+pub(crate) fn find_verb<V: Copy>(verbs: &[(&[u8], V)], word: &[u8]) -> Result<V, Fault>
     ensures { result ≡ find_verb (map (λ t. (t.0.now, t.1)) verbs.now) word.now }
 {
     verbs

@@ -16,7 +16,7 @@ use names::refusal::Refusal;
 use renamer::renamer::Renamer;
 
 // Another chunk, and the name of its helper.
-#[derive(Clone, Copy)]
+#[derive(Clone, Copy, Default)]
 pub struct RequireName {
     pub chunk: ChunkIdx,
     pub name: Name,

@@ -5,7 +5,7 @@ ghost use Rattle.keyed_table.specs.Links.{AllBlank, blank};
 use keys::key::HashKey;
 
 // A key with its value.
-#[derive(Clone, Copy)]
+#[derive(Clone, Copy, Default)]
 pub struct Entry<K, V> {
     pub key: K,
     pub value: V,

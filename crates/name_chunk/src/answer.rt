@@ -1,42 +1,44 @@
 // Answers documents, one after another.
 use crate::print;
-use chunk_checks::check_chunk;
-use chunk_faults::sizes::MemorySizes;
-use chunk_tables::chunk::Chunk;
-use chunk_tables::links::MOST_SYMBOLS;
 use chunk_text::document::{Document, is_separator, read_document};
 use chunk_text::fault::DocumentError;
-use names::limits::MOST_RECORDS;
+use deconflict_chunk_symbols::helpers::RequireName;
+use deconflict_chunk_symbols::run::deconflict_chunk_symbols;
+use renamer::renamer::Renamer;
+use session_memory::{make, sizes_for};
 use std::alloc::{AllocError, Global};
 use std::io;
 
-// Room for every chunk within the limits.
-fn ample(chunk: &Chunk) -> MemorySizes {
-    MemorySizes {
-        records: MOST_RECORDS as usize,
-        names: MOST_SYMBOLS,
-        inner: MOST_SYMBOLS,
-        marks: chunk.modules.len(),
-        helpers: chunk.other_chunks.len(),
+// Names the symbols of the chunk, and tells the names, the helpers and the records.
+fn name_symbols(heap: Global, renamer: &mut Renamer, out: &mut Vec<u8>) -> io::Result<()> {
+    let others = renamer.chunk().other_chunks.len();
+    let mut helpers = vec![in heap; RequireName::default(); others]?;
+    match deconflict_chunk_symbols(renamer, &mut helpers) {
+        Ok(()) => {
+            print::names(heap, renamer, out)?;
+            print::helpers(&helpers, out)?;
+            print::records(heap, renamer, out)
+        }
+        Err(refusal) => answer_lines::refused(refusal, out),
     }
 }
 
-fn answer_chunk(heap: Global, document: &Document, out: &mut Vec<u8>) -> io::Result<()> {
-    let chunk = &document.chunk;
-    let sizes = document.memory.unwrap_or(ample(chunk));
-    match check_chunk(heap, chunk, &sizes) {
-        Ok(()) => print::symbols(chunk, out)?,
-        Err(refusal) => print::refused(refusal, out)?,
+fn answer_chunk(heap: Global, document: Document, out: &mut Vec<u8>) -> io::Result<()> {
+    let Document { chunk, memory } = document;
+    let memory = make(heap, sizes_for(&chunk, memory))?;
+    match Renamer::open(heap, chunk, memory) {
+        Ok(mut renamer) => name_symbols(heap, &mut renamer, out)?,
+        Err(refused) => answer_lines::refused(refused.refusal, out)?,
     }
-    print::done(out)
+    answer_lines::done(out)
 }
 
 // The document begins at a line with this number.
 fn answer(heap: Global, first: usize, lines: &[&[u8]], out: &mut Vec<u8>) -> io::Result<()> {
     match read_document(heap, lines) {
-        Ok(document) => answer_chunk(heap, &document, out),
+        Ok(document) => answer_chunk(heap, document, out),
         Err(DocumentError::Faulty(line, fault)) => {
-            print::fault(first.saturating_add(line), fault, out)
+            answer_lines::fault(first.saturating_add(line), &fault, out)
         }
         Err(DocumentError::NoMemory) => Err(AllocError.into()),
     }

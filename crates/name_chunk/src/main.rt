@@ -1,4 +1,4 @@
-// Reads chunks from standard input, and tells of each which number it is refused with, or what its symbols are.
+// Reads chunks from standard input, and names the symbols of each, or tells which number it is refused with.
 #![tactic(auto)]
 
 mod answer;

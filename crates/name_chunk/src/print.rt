@@ -1,43 +1,33 @@
-// The lines of the output.
-use chunk_tables::chunk::Chunk;
-use chunk_text::fault::Fault;
-use keys::refs::SymbolRef;
-use names::refusal::Refusal;
+// What a session whose naming calls are made has given.
+use conflict_resolver::resolver::NameRecord;
+use deconflict_chunk_symbols::helpers::RequireName;
+use given_names::NamedSymbol;
+use renamer::renamer::Renamer;
+use std::alloc::Global;
 use std::io::{self, Write};
 
-pub fn fault(line: usize, fault: Fault, out: &mut Vec<u8>) -> io::Result<()> {
-    writeln!(out, "line {line}: {fault}")
+// The named symbols, ascending by module and number.
+pub fn names(heap: Global, renamer: &Renamer, out: &mut Vec<u8>) -> io::Result<()> {
+    let mut rows = vec![in heap; NamedSymbol::default(); renamer.named()]?;
+    // There is a row for each name, so this is not refused.
+    let _ = renamer.list(&mut rows);
+    answer_lines::names(&rows, out)
 }
 
-pub fn refused(refusal: Refusal, out: &mut Vec<u8>) -> io::Result<()> {
-    writeln!(out, "refused {} {refusal}", refusal.number())
-}
-
-pub fn done(out: &mut Vec<u8>) -> io::Result<()> {
-    writeln!(out, "done")
-}
-
-fn symbol(chunk: &Chunk, symbol: SymbolRef, out: &mut Vec<u8>) -> io::Result<()> {
-    let canonical = chunk.canonical_ref_for(symbol);
-    let printed = chunk.canonical_ref_resolving_namespace(symbol);
-    write!(out, "symbol {} {}", symbol.owner, symbol.symbol)?;
-    write!(out, " canonical {}.{}", canonical.owner, canonical.symbol)?;
-    writeln!(out, " printed {}.{}", printed.owner, printed.symbol)
-}
-
-// The canonical and the printed symbol of each symbol.
-pub fn symbols(chunk: &Chunk, out: &mut Vec<u8>) -> io::Result<()> {
-    for (owner, of) in (0..).zip(chunk.modules.iter()) {
-        for (number, _) in (0..).zip(of.symbols.iter()) {
-            symbol(
-                chunk,
-                SymbolRef {
-                    owner,
-                    symbol: number,
-                },
-                out,
-            )?;
-        }
+// The helpers of other chunks, in their order.
+pub fn helpers(helpers: &[RequireName], out: &mut Vec<u8>) -> io::Result<()> {
+    for helper in helpers {
+        write!(out, "helper {} ", helper.chunk.0)?;
+        answer_lines::end_with(&helper.name, out)?;
     }
     Ok(())
+}
+
+// The records, ascending by the bytes of their names.
+pub fn records(heap: Global, renamer: &Renamer, out: &mut Vec<u8>) -> io::Result<()> {
+    let mut rows: Vec<NameRecord> = (0..renamer.records())
+        .filter_map(|i| renamer.record_at(i))
+        .collect(heap)?;
+    rows.sort_unstable_by_key(|row| row.key);
+    answer_lines::records(&rows, out)
 }

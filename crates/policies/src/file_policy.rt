@@ -1,16 +1,29 @@
-// The policy of synthesized symbols and of helpers: no candidate must be an inner name of the chunk.
-ghost use Rattle.chunk_tables.specs.View.{chunk_of};
-ghost use Rattle.policies.specs.Held.{Holds};
+// The policy of synthesized symbols and of helpers: no candidate must be an inner name.
+ghost use Rattle.std.specs.Prelude.{◌≡◌};
+ghost use Rattle.policies.specs.Held.{has_name};
 
 use crate::inner_names::InnerBindingNames;
-use chunk_tables::chunk::Chunk;
+use conflict_resolver::policy::Policy;
+use names::name::Name;
 
-pub mod asked;
-
-// The set has the chunk's inner names, so the chunk is there for what is said of the policy alone.
+// The set has the inner names of the chunk that it was filled from.
 #[derive(Clone, Copy)]
 pub struct FilePolicy<'a> {
-    chunk: &'a Chunk,
     names: &'a InnerBindingNames,
-    ghost filled: { Holds (chunk_of chunk.now) names.now },
+}
+
+impl<'a> FilePolicy<'a> {
+    pub fn new(names: &'a InnerBindingNames) -> FilePolicy<'a>
+        ensures { result.names.now ≡ names.now }
+    {
+        FilePolicy { names }
+    }
+}
+
+impl Policy for FilePolicy<'_> {
+    ghost vetoes = { λ p c bare. has_name p.names.now c };
+
+    fn vetoed(&self, candidate: &Name, _bare: bool) -> bool {
+        self.names.contains(candidate)
+    }
 }

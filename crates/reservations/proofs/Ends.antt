@@ -10,7 +10,8 @@ use Rattle.conflict_resolver.specs.Records.{Record, counter_of, recording, Apart
 use Rattle.conflict_resolver.specs.Rules.{Reservation, made, declined}
 use Rattle.conflict_resolver.proofs.Lookups.{same_true, recorded_same, recorded_other, apart_recorded}
 use Rattle.conflict_resolver.proofs.Reservations.{Ends, nameless, recorded, full, new, ends}
-use Rattle.reservations.specs.Laws.{among, ReservesTheNames, RefusedForCause, BasesRefusedWhereFull}
+use Rattle.reservations.specs.Laws.{ReservesTheNames, RefusedForCause, BasesRefusedWhereFull, ReservedAreOnRecord}
+use Rattle.reservations.specs.Reserved.{among, reserved_names}
 use Rattle.reservations.specs.Reserving.{following, reserve_each}
 
 -- the counter of a name after all of ns were reserved, where o was the one before
@@ -116,3 +117,9 @@ bases_refused_where_full most ns es why bases e = on (refused_for_cause most ns 
     on : Caused most ns es why → (why ≡ 10) × (length es ≡ most) × ((n : List ℕ) × (among ns n ≡ true) × (counter_of es n ≡ None))
     on (inl (f, (n, is, h))) = absurd (both_ways _ h (bases n is))
     on (inr h) = h
+
+pub reserved_are_on_record : ReservedAreOnRecord
+reserved_are_on_record most f c es coded e n is =
+    let named : among (reserved_names f c) n ≡ true = subst (λ o. maybe o false (λ g. among (reserved_names g c) n) ≡ true) coded is in
+    let told = (reserves_the_names most (reserved_names f c) es e).1 n in
+    ap is_some (told ∙ ap (λ b. cond b (Some 0) None) named)

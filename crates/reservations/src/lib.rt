@@ -1,7 +1,7 @@
 // The names that no symbol of a chunk is given: they are put on record before any name is sought.
 #![tactic(auto)]
 
-ghost use Rattle.reservations.specs.Laws.{ReservesTheNames, RefusedForCause, BasesRefusedWhereFull};
+ghost use Rattle.reservations.specs.Laws.{ReservesTheNames, RefusedForCause, BasesRefusedWhereFull, ReservedAreOnRecord};
 
 pub mod reserving;
 mod texts;
@@ -11,4 +11,5 @@ pub fn laws()
     ensures granted { ReservesTheNames }
     ensures refused { RefusedForCause }
     ensures bases { BasesRefusedWhereFull }
+    ensures reserved { ReservedAreOnRecord }
 {}

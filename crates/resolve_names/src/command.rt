@@ -2,14 +2,7 @@
 use line_text::cut::cut;
 use line_text::numeral::number;
 use std::fmt;
-
-// Which candidates of a name are vetoed.
-#[derive(Clone, Copy)]
-pub enum Kind {
-    Bare,
-    Numbered,
-    Both,
-}
+use vetoes::VetoKind;
 
 #[derive(Clone, Copy)]
 pub enum Command<'a> {
@@ -17,7 +10,7 @@ pub enum Command<'a> {
     Nothing,
     Records(u32),
     Reserve(&'a [u8]),
-    Veto(Kind, &'a [u8]),
+    Veto(VetoKind, &'a [u8]),
     VetoAll,
     VetoNone,
     Resolve(&'a [u8], u32),
@@ -79,9 +72,9 @@ fn parse_veto(words: &[u8]) -> Result<Command<'_>, Fault> {
     match cut(words, b' ') {
         (b"all", b"") => Ok(Command::VetoAll),
         (b"none", b"") => Ok(Command::VetoNone),
-        (b"bare", name) => Ok(Command::Veto(Kind::Bare, parse_name(name)?)),
-        (b"numbered", name) => Ok(Command::Veto(Kind::Numbered, parse_name(name)?)),
-        (b"both", name) => Ok(Command::Veto(Kind::Both, parse_name(name)?)),
+        (b"bare", name) => Ok(Command::Veto(VetoKind::Bare, parse_name(name)?)),
+        (b"numbered", name) => Ok(Command::Veto(VetoKind::Numbered, parse_name(name)?)),
+        (b"both", name) => Ok(Command::Veto(VetoKind::Both, parse_name(name)?)),
         _ => Err(Fault::NoSuchVeto),
     }
 }

@@ -1,5 +1,5 @@
 // Documents: each has its own records and vetoes.
-use crate::command::{Command, Fault, Kind, parse};
+use crate::command::{Command, Fault, parse};
 use crate::print;
 use conflict_resolver::resolver::{ConflictResolver, NameRecord, RecordSlot, Resolved};
 use line_text::lines::Lines;
@@ -66,7 +66,7 @@ impl Session {
                     print::name_refused(name, refusal, out)?;
                 }
             }
-            Command::Veto(kind, name) => match veto_of(kind, name) {
+            Command::Veto(kind, name) => match Veto::new(kind, name) {
                 Ok(veto) => self.vetoes.add(veto)?,
                 Err(refusal) => print::name_refused(name, refusal, out)?,
             },
@@ -87,25 +87,14 @@ impl Session {
             .collect(heap)?;
         // There is a row for each record, so this is not refused.
         let _ = self.resolver.list(&mut rows);
-        for row in &rows {
-            print::record(row, out)?;
-        }
-        Ok(())
+        answer_lines::records(&rows, out)
     }
-}
-
-fn veto_of(kind: Kind, text: &[u8]) -> Result<Veto, Refusal> {
-    Ok(Veto {
-        name: Name::new(text)?,
-        bare: matches!(kind, Kind::Bare | Kind::Both),
-        numbered: matches!(kind, Kind::Numbered | Kind::Both),
-    })
 }
 
 // Carries out the document that begins at the lines, and has no faulty one.
 fn perform(heap: Global, lines: Lines<'_>, records: u32, out: &mut Vec<u8>) -> io::Result<()> {
     if !(1..=MOST_RECORDS).contains(&records) {
-        return print::refused(Refusal::OutsideLimit, out);
+        return answer_lines::refused(Refusal::OutsideLimit, out);
     }
     let slots = vec![in heap; RecordSlot::empty(); records as usize]?;
     let mut session = Session {
@@ -122,7 +111,7 @@ fn perform(heap: Global, lines: Lines<'_>, records: u32, out: &mut Vec<u8>) -> i
 
 fn answer(heap: Global, lines: Lines<'_>, reading: Reading, out: &mut Vec<u8>) -> io::Result<()> {
     match reading.fault {
-        Some((number, fault)) => print::fault(number, fault, out),
+        Some((number, fault)) => answer_lines::fault(number, &fault, out),
         None => perform(heap, lines, reading.records.unwrap_or(MOST_RECORDS), out),
     }
 }

@@ -78,10 +78,12 @@ opened_after c = at_the_end c (Opened c) (λ T x. keeps_opened c T x (step c T x
 
 pub stays_opened : StaysOpened
 stays_opened = record {
-  at_first = λ c es. record {
+  at_first = λ c es h. record {
     recorded = λ q n e. absurd (none-some n e);
     apart = λ q r n m ne e. absurd (none-some n e);
     own = λ q n e. absurd (none-some n e);
+    reserved = h;
+    spared = λ q n e. absurd (none-some n e);
   };
   later = opened_after;
 }

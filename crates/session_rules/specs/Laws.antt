@@ -6,10 +6,12 @@ use Rattle.chunk_tables.specs.Links.{symbol_at, canonical}
 use Rattle.chunk_tables.specs.Model.{Name, Symbol, Chunk}
 use Rattle.conflict_resolver.specs.Laws.{Candidate, Limited, most_probes, Kept as NothingRecorded}
 use Rattle.conflict_resolver.specs.Records.{Record, counter_of, Apart as Once}
+use Rattle.reservations.specs.Reserved.{is_reserved}
 use Rattle.session_rules.specs.Calls.{Call, root, after_all}
 use Rattle.session_rules.specs.Events.{Happens, Giving, Refusing, Naming, Reserving, base_of, vetoes_of}
 use Rattle.session_rules.specs.Rules.{already}
 use Rattle.session_rules.specs.Session.{Session, name_of}
+use Rattle.session_rules.specs.Vetoes.{kind_vetoes}
 
 -- nothing is lost: a symbol's name stays its name, and so does one that it is given; a name stays on record, and its counter
 -- does not fall; so does one that is given or reserved; nor does a name come on record twice, or a counter pass 9,999
@@ -34,16 +36,28 @@ pub record NothingElse : Type 0 where
   pub records : (c : Chunk) (S : Session) (xs : List Call) (n : Name) → is_some (counter_of (after_all c S xs).records n) ≡ true
       → (is_some (counter_of S.records n) ≡ true) ⊎ (((g : Giving c S xs) × (g.name ≡ n)) ⊎ Reserving c S xs n)
 
--- of a session: each given name is on record, no two symbols have one name, and each has its own or a numbered form of it
+-- n is the symbol q's own name, found without a probe, or a numbered form of that, and the policy of a kind does not veto it
+pub record OwnName (c : Chunk) (q : SymbolRef) (n : Name) : Type 0 where
+  pub symbol : Symbol
+  pub stands : symbol_at c q ≡ Some symbol
+  pub probes : ℕ
+  pub candidate : Candidate symbol.name n probes
+  pub kind : RootBindingKind
+  pub unvetoed : kind_vetoes c q kind n (probes == 0) ≡ false
+
+-- of a session: each given name is on record, no two symbols have one name, and each has its own; the reserved names are on
+-- record, and none was given
 pub record Opened (c : Chunk) (S : Session) : Type 0 where
   pub recorded : (q : SymbolRef) (n : Name) → name_of S.given q ≡ Some n → is_some (counter_of S.records n) ≡ true
   pub apart : (q r : SymbolRef) (n m : Name) → q ≢ r → name_of S.given q ≡ Some n → name_of S.given r ≡ Some m → n ≢ m
-  pub own : (q : SymbolRef) (n : Name) → name_of S.given q ≡ Some n
-      → (y : Symbol) × (symbol_at c q ≡ Some y) × (p : ℕ) × Candidate y.name n p
+  pub own : (q : SymbolRef) (n : Name) → name_of S.given q ≡ Some n → OwnName c q n
+  pub reserved : (n : Name) → is_reserved c n ≡ true → is_some (counter_of S.records n) ≡ true
+  pub spared : (q : SymbolRef) (n : Name) → name_of S.given q ≡ Some n → is_reserved c n ≡ false
 
--- it holds before any name is given, and whatever is called then
+-- it holds before any name is given, where the reserved names are on record, and whatever is called then
 pub record StaysOpened : Type 0 where
-  pub at_first : (c : Chunk) (es : List Record) → Opened c (record { records = es; given = [] })
+  pub at_first : (c : Chunk) (es : List Record) → ((n : Name) → is_reserved c n ≡ true → is_some (counter_of es n) ≡ true)
+      → Opened c (record { records = es; given = [] })
   pub later : (c : Chunk) (S : Session) (xs : List Call) → Opened c S → Opened c (after_all c S xs)
 
 -- no name is given twice, and two symbols have two names
@@ -67,7 +81,7 @@ pub record FromItsOwnName : Type 0 where
   pub givings : (c : Chunk) (S : Session) (xs : List Call) (g : Giving c S xs)
       → (b : Name) × (base_of c g.call ≡ Some b) × Candidate b g.name g.probes
   pub symbols : (c : Chunk) (S : Session) (xs : List Call) → Opened c S → (q : SymbolRef) (n : Name)
-      → name_of (after_all c S xs).given q ≡ Some n → (y : Symbol) × (symbol_at c q ≡ Some y) × (p : ℕ) × Candidate y.name n p
+      → name_of (after_all c S xs).given q ≡ Some n → OwnName c q n
 
 -- the probes are bounded by what is on record and what is vetoed, and a search is too long only where the bound passes 4,096
 pub record Bounded : Type 0 where

@@ -1,24 +1,16 @@
 // The lines that are calls of a session.
 use chunk_tables::kind::RootBindingKind;
-use chunk_text::fault::Fault;
+use chunk_text::fault::{Fault, ReadError};
+use chunk_text::words::{
+    either, has_empty_word, no_word, number_in, only_word, symbol_in, words_of,
+};
 use keys::refs::SymbolRef;
-use line_text::cut::{cut, trim_front};
-use line_text::numeral::number;
-
-// Which candidates of a name are vetoed.
-#[derive(Clone, Copy)]
-pub enum VetoKind {
-    Bare,
-    Numbered,
-    Both,
-}
+use line_text::cut::trim_front;
+use std::alloc::Global;
+use vetoes::VetoKind;
 
 #[derive(Clone, Copy)]
 pub enum Call<'a> {
-    // An empty line or a comment.
-    Nothing,
-    // Where the calls begin.
-    Session,
     Reserve(&'a [u8]),
     // Without a kind the chunk tells it.
     Root(SymbolRef, Option<RootBindingKind>),
@@ -28,7 +20,8 @@ pub enum Call<'a> {
     Veto(VetoKind, &'a [u8]),
     VetoAll,
     VetoNone,
-    Policy(&'a [u8]),
+    // So many searches.
+    Policy(&'a [u8], u32),
     Printed(SymbolRef),
     // With a buffer of so many places, or else of as many as are needed.
     Names(Option<u32>),
@@ -39,84 +32,98 @@ pub enum Call<'a> {
 impl Call<'_> {
     // Whether the call can be made once repair began.
     pub fn is_for_repair(&self) -> bool {
-        matches!(self, Call::Nothing | Call::Printed(_) | Call::Names(_))
+        matches!(self, Call::Printed(_) | Call::Names(_))
     }
 }
 
-// The one word that is left on a line.
-fn only_word(words: &[u8]) -> Result<&[u8], Fault> {
-    match cut(words, b' ') {
-        (b"", _) => Err(Fault::WrongWords),
-        (word, b"") => Ok(word),
+fn root_kind(word: &[u8]) -> Result<RootBindingKind, Fault> {
+    if either(word, b"authored", b"synthesized")? {
+        Ok(RootBindingKind::Authored)
+    } else {
+        Ok(RootBindingKind::Synthesized)
+    }
+}
+
+fn root<'a>(words: &[&'a [u8]]) -> Result<Call<'a>, Fault> {
+    match words {
+        [symbol] => Ok(Call::Root(symbol_in(symbol)?, None)),
+        [symbol, kind] => Ok(Call::Root(symbol_in(symbol)?, Some(root_kind(kind)?))),
         _ => Err(Fault::WrongWords),
     }
 }
 
-fn no_word<'a>(words: &[u8], call: Call<'a>) -> Result<Call<'a>, Fault> {
-    if words.is_empty() {
-        Ok(call)
-    } else {
-        Err(Fault::WrongWords)
-    }
-}
-
-fn symbol_in(word: &[u8]) -> Result<SymbolRef, Fault> {
-    let (owner, symbol) = cut(word, b'.');
-    Ok(SymbolRef {
-        owner: number(owner).ok_or(Fault::NoSymbol)?,
-        symbol: number(symbol).ok_or(Fault::NoSymbol)?,
-    })
-}
-
-fn root(words: &[u8]) -> Result<Call<'_>, Fault> {
-    let (symbol, kind) = cut(words, b' ');
-    let symbol = symbol_in(symbol)?;
-    let kind = match kind {
-        b"" => None,
-        b"authored" => Some(RootBindingKind::Authored),
-        b"synthesized" => Some(RootBindingKind::Synthesized),
-        _ => return Err(Fault::NoSuchWord),
-    };
-    Ok(Call::Root(symbol, kind))
-}
-
-fn veto(words: &[u8]) -> Result<Call<'_>, Fault> {
-    match cut(words, b' ') {
-        (b"all", b"") => Ok(Call::VetoAll),
-        (b"none", b"") => Ok(Call::VetoNone),
-        (b"bare", name) => Ok(Call::Veto(VetoKind::Bare, only_word(name)?)),
-        (b"numbered", name) => Ok(Call::Veto(VetoKind::Numbered, only_word(name)?)),
-        (b"both", name) => Ok(Call::Veto(VetoKind::Both, only_word(name)?)),
+fn veto_kind(word: &[u8]) -> Result<VetoKind, Fault> {
+    match word {
+        b"bare" => Ok(VetoKind::Bare),
+        b"numbered" => Ok(VetoKind::Numbered),
+        b"both" => Ok(VetoKind::Both),
         _ => Err(Fault::NoSuchWord),
     }
 }
 
-fn names(words: &[u8]) -> Result<Call<'_>, Fault> {
-    if words.is_empty() {
-        return Ok(Call::Names(None));
+fn veto<'a>(words: &[&'a [u8]]) -> Result<Call<'a>, Fault> {
+    match words {
+        [which] => {
+            let all = either(which, b"all", b"none")?;
+            Ok(if all { Call::VetoAll } else { Call::VetoNone })
+        }
+        [kind, name] => Ok(Call::Veto(veto_kind(kind)?, name)),
+        _ => Err(Fault::WrongWords),
     }
-    let places = number(only_word(words)?).ok_or(Fault::NoNumber)?;
-    Ok(Call::Names(Some(places)))
 }
 
-// What a line asks for.
-pub fn parse(line: &[u8]) -> Result<Call<'_>, Fault> {
-    let line = trim_front(line);
-    let (verb, words) = cut(line, b' ');
+fn policy<'a>(words: &[&'a [u8]]) -> Result<Call<'a>, Fault> {
+    match words {
+        [base] => Ok(Call::Policy(base, 1)),
+        [base, times] => match number_in(times)? {
+            0 => Err(Fault::NoSuchWord),
+            times => Ok(Call::Policy(base, times)),
+        },
+        _ => Err(Fault::WrongWords),
+    }
+}
+
+fn names<'a>(words: &[&'a [u8]]) -> Result<Call<'a>, Fault> {
+    match words {
+        [] => Ok(Call::Names(None)),
+        [places] => Ok(Call::Names(Some(number_in(places)?))),
+        _ => Err(Fault::WrongWords),
+    }
+}
+
+fn alone<'a>(call: Call<'a>, words: &[&'a [u8]]) -> Result<Call<'a>, Fault> {
+    no_word(words)?;
+    Ok(call)
+}
+
+fn spoken<'a>(verb: &[u8], words: &[&'a [u8]]) -> Result<Call<'a>, Fault> {
     match verb {
-        b"" | [b'#', ..] => Ok(Call::Nothing),
-        _ if line.ends_with(b" ") => Err(Fault::StraySpace),
-        b"session" => no_word(words, Call::Session),
         b"reserve" => Ok(Call::Reserve(only_word(words)?)),
         b"root" => root(words),
         b"helper" => Ok(Call::Helper(only_word(words)?)),
         b"require" => Ok(Call::Require(only_word(words)?)),
         b"veto" => veto(words),
-        b"policy" => Ok(Call::Policy(only_word(words)?)),
+        b"policy" => policy(words),
         b"printed" => Ok(Call::Printed(symbol_in(only_word(words)?)?)),
         b"names" => names(words),
-        b"records" => no_word(words, Call::Records),
-        b"repair" => no_word(words, Call::Repair),
+        b"records" => alone(Call::Records, words),
+        b"repair" => alone(Call::Repair, words),
         _ => Err(Fault::NoSuchLine),
+    }
+}
+
+// The call that a line asks for. An empty line, and one that begins with a number sign, ask for none.
+pub fn read_call<'a>(heap: Global, line: &'a [u8]) -> Result<Option<Call<'a>>, ReadError> {
+    let line = match trim_front(line) {
+        [] | [b'#', ..] => return Ok(None),
+        line => line,
+    };
+    let words = words_of(heap, line)?;
+    if has_empty_word(&words) {
+        return Err(ReadError::Line(Fault::StraySpace));
+    }
+    match words.as_slice() {
+        [verb, words @ ..] => Ok(Some(spoken(verb, words)?)),
+        [] => Ok(None),
     }
 }

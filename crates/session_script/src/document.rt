@@ -1,7 +1,5 @@
 // Documents: each is a chunk, and, behind a line `session`, the calls on it.
-ghost use Rattle.std.specs.Prelude.{◌≤◌, length};
-
-use crate::call::{Call, parse};
+use crate::call::{Call, read_call};
 use crate::{open, print, repairing};
 use chunk_text::document::{Document, is_separator, read_document};
 use chunk_text::fault::{DocumentError, Fault};
@@ -15,93 +13,84 @@ use vetoes::Vetoes;
 
 const SESSION: &[u8] = b"session";
 
-// The first faulty line among the calls, with its place. Once repair began, only some calls can be made.
-fn fault_in(calls: &[&[u8]]) -> Option<(usize, Fault)> {
+// A chunk, and the calls of a session over it.
+#[derive(Drop)]
+struct Script<'a> {
+    document: Document,
+    calls: Vec<Call<'a>>,
+}
+
+// The calls that the lines from this place on ask for. Once repair began, only some can be made.
+fn read_calls<'a>(
+    heap: Global,
+    lines: &[&'a [u8]],
+    from: usize,
+) -> Result<Vec<Call<'a>>, DocumentError> {
+    let mut calls = Vec::new(heap);
     let mut repairing = false;
-    for (place, line) in calls.iter().enumerate() {
-        match parse(line) {
-            Err(fault) => return Some((place, fault)),
-            Ok(call) if repairing && !call.is_for_repair() => {
-                return Some((place, Fault::NoSuchLine));
-            }
-            // Only the line where the calls begin.
-            Ok(Call::Session) if place > 0 => return Some((place, Fault::NoSuchLine)),
-            Ok(Call::Repair) => repairing = true,
-            Ok(_) => {}
+    for (place, line) in lines.iter().enumerate().skip(from) {
+        let Some(call) = read_call(heap, line).map_err(|error| error.at(place))? else {
+            continue;
+        };
+        if repairing && !call.is_for_repair() {
+            return Err(DocumentError::Faulty(place, Fault::NoSuchLine));
         }
+        repairing = repairing || matches!(call, Call::Repair);
+        calls.push(call).map_err(|_| DocumentError::NoMemory)?;
     }
-    None
+    Ok(calls)
+}
+
+fn read_script<'a>(heap: Global, lines: &[&'a [u8]]) -> Result<Script<'a>, DocumentError> {
+    let is_session = |line: &&[u8]| trim_front(line) == SESSION;
+    let session = lines.iter().position(is_session).unwrap_or(lines.len());
+    let document = read_document(heap, &lines[..session])?;
+    let calls = read_calls(heap, lines, session.saturating_add(1))?;
+    Ok(Script { document, calls })
 }
 
 // Makes the calls of a session that opened, and gives back its memory.
 fn perform(
     heap: Global,
     renamer: Renamer,
-    calls: &[&[u8]],
+    calls: &[Call<'_>],
     out: &mut Vec<u8>,
 ) -> io::Result<Memory> {
-    let is_repair = |line: &&[u8]| matches!(parse(line), Ok(Call::Repair));
+    let is_repair = |call: &Call<'_>| matches!(call, Call::Repair);
     let open_until = calls.iter().position(is_repair).unwrap_or(calls.len());
     let mut renamer = renamer;
     let mut vetoes = Vetoes::none(heap);
-    for line in &calls[..open_until] {
-        if let Ok(call) = parse(line) {
-            open::perform(heap, &mut renamer, &mut vetoes, call, out)?;
-        }
+    for call in &calls[..open_until] {
+        open::perform(heap, &mut renamer, &mut vetoes, *call, out)?;
     }
     let renamer = renamer.start_repair();
-    for line in &calls[open_until..] {
-        if let Ok(call) = parse(line) {
-            repairing::perform(heap, &renamer, call, out)?;
-        }
+    for call in &calls[open_until..] {
+        repairing::perform(heap, &renamer, *call, out)?;
     }
     let (_, memory) = renamer.into_parts();
     Ok(memory)
 }
 
-fn answer_chunk(
-    heap: Global,
-    document: Document,
-    calls: &[&[u8]],
-    out: &mut Vec<u8>,
-) -> io::Result<()> {
-    let Document { chunk, memory } = document;
+fn answer_script(heap: Global, script: Script<'_>, out: &mut Vec<u8>) -> io::Result<()> {
+    let Document { chunk, memory } = script.document;
     let memory = make(heap, sizes_for(&chunk, memory))?;
     let memory = match Renamer::open(heap, chunk, memory) {
-        Ok(renamer) => perform(heap, renamer, calls, out)?,
+        Ok(renamer) => perform(heap, renamer, &script.calls, out)?,
         Err(refused) => {
-            print::refused(refused.refusal, out)?;
+            answer_lines::refused(refused.refusal, out)?;
             refused.memory
         }
     };
     print::memory(&memory.sizes(), out)?;
-    print::done(out)
-}
-
-// Where the line `session` stands, or the end.
-fn end_of_tables(lines: &[&[u8]]) -> usize
-    ensures { result ≤ length lines.now }
-{
-    lines
-        .iter()
-        .position(|line| trim_front(line) == SESSION)
-        .unwrap_or(lines.len())
+    answer_lines::done(out)
 }
 
 // The document begins at a line with this number.
 fn answer(heap: Global, first: usize, lines: &[&[u8]], out: &mut Vec<u8>) -> io::Result<()> {
-    let end = end_of_tables(lines);
-    let (tables, calls) = lines.split_at(end);
-    match read_document(heap, tables) {
-        Ok(document) => match fault_in(calls) {
-            None => answer_chunk(heap, document, calls, out),
-            Some((place, fault)) => {
-                let line = first.saturating_add(end).saturating_add(place);
-                print::fault(line, fault, out)
-            }
-        },
+    match read_script(heap, lines) {
+        Ok(script) => answer_script(heap, script, out),
         Err(DocumentError::Faulty(line, fault)) => {
-            print::fault(first.saturating_add(line), fault, out)
+            answer_lines::fault(first.saturating_add(line), &fault, out)
         }
         Err(DocumentError::NoMemory) => Err(AllocError.into()),
     }

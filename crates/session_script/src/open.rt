@@ -1,29 +1,34 @@
 // The calls of an open session.
-use crate::call::{Call, VetoKind};
+use crate::call::Call;
 use crate::print;
 use chunk_tables::kind::RootBindingKind;
 use conflict_resolver::resolver::Resolved;
+use given_names::NamedSymbol;
 use hints::require_hint;
 use keys::refs::SymbolRef;
-use names::name::Name;
 use names::refusal::Refusal;
 use renamer::renamer::Renamer;
 use std::alloc::Global;
 use std::io;
-use vetoes::{Veto, Vetoes};
-
-fn veto_of(kind: VetoKind, text: &[u8]) -> Result<Veto, Refusal> {
-    Ok(Veto {
-        name: Name::new(text)?,
-        bare: matches!(kind, VetoKind::Bare | VetoKind::Both),
-        numbered: matches!(kind, VetoKind::Numbered | VetoKind::Both),
-    })
-}
+use vetoes::{Veto, VetoKind, Vetoes};
 
 // A helper for another chunk of this name.
 fn require(renamer: &mut Renamer, chunk_name: &[u8]) -> Result<Resolved, Refusal> {
     let hint = require_hint(chunk_name)?;
     renamer.create_conflictless_name(hint.as_bytes())
+}
+
+// The last of so many answers, and at least one.
+fn search(
+    renamer: &mut Renamer,
+    base: &[u8],
+    times: u32,
+    vetoes: &Vetoes,
+) -> Result<Resolved, Refusal> {
+    for _ in 1..times {
+        let _ = renamer.resolve(base, vetoes);
+    }
+    renamer.resolve(base, vetoes)
 }
 
 fn name_root(
@@ -38,7 +43,7 @@ fn name_root(
 }
 
 fn add_veto(vetoes: &mut Vetoes, kind: VetoKind, name: &[u8], out: &mut Vec<u8>) -> io::Result<()> {
-    match veto_of(kind, name) {
+    match Veto::new(kind, name) {
         Ok(veto) => Ok(vetoes.add(veto)?),
         Err(refusal) => print::text_refused(b"veto", name, refusal, out),
     }
@@ -52,7 +57,7 @@ pub fn perform(
     out: &mut Vec<u8>,
 ) -> io::Result<()> {
     match call {
-        Call::Nothing | Call::Session | Call::Repair => Ok(()),
+        Call::Repair => Ok(()),
         Call::Reserve(name) => match renamer.reserve(name) {
             Ok(()) => Ok(()),
             Err(refusal) => print::text_refused(b"reserve", name, refusal, out),
@@ -72,14 +77,15 @@ pub fn perform(
             vetoes.clear();
             Ok(())
         }
-        Call::Policy(base) => {
-            let answer = renamer.resolve(base, &*vetoes);
+        Call::Policy(base, times) => {
+            let answer = search(renamer, base, times, vetoes);
             print::search(b"policy", base, answer, out)
         }
         Call::Printed(symbol) => print::printed(symbol, renamer.printed_name(symbol), out),
         Call::Names(places) => {
             let places = places.map_or(renamer.named(), |places| places as usize);
-            let mut rows = print::blank_rows(heap, places.min(renamer.named()))?;
+            let places = places.min(renamer.named());
+            let mut rows = vec![in heap; NamedSymbol::default(); places]?;
             let count = renamer.list(&mut rows);
             print::names(count, &rows, out)
         }

@@ -1,6 +1,5 @@
-// The lines of the output. A name need not be UTF-8, so it is written by its bytes.
+// The lines of the output that only this program has. A name need not be UTF-8, so it is written by its bytes.
 use chunk_faults::sizes::MemorySizes;
-use chunk_text::fault::Fault;
 use conflict_resolver::resolver::{NameRecord, Resolved};
 use given_names::NamedSymbol;
 use keys::refs::SymbolRef;
@@ -8,20 +7,8 @@ use names::name::Name;
 use names::refusal::Refusal;
 use renamer::renamer::Renamer;
 use renamer::renamer::naming::RootName;
-use std::alloc::{AllocError, Global};
+use std::alloc::Global;
 use std::io::{self, Write};
-
-pub fn fault(line: usize, fault: Fault, out: &mut Vec<u8>) -> io::Result<()> {
-    writeln!(out, "line {line}: {fault}")
-}
-
-pub fn refused(refusal: Refusal, out: &mut Vec<u8>) -> io::Result<()> {
-    writeln!(out, "refused {} {refusal}", refusal.number())
-}
-
-pub fn done(out: &mut Vec<u8>) -> io::Result<()> {
-    writeln!(out, "done")
-}
 
 // What memory is given back.
 pub fn memory(sizes: &MemorySizes, out: &mut Vec<u8>) -> io::Result<()> {
@@ -44,7 +31,7 @@ pub fn text_refused(
     out: &mut Vec<u8>,
 ) -> io::Result<()> {
     begin(verb, text, out)?;
-    refused(refusal, out)
+    answer_lines::refused(refusal, out)
 }
 
 fn found(resolved: &Resolved, out: &mut Vec<u8>) -> io::Result<()> {
@@ -61,14 +48,8 @@ pub fn search(
     begin(verb, text, out)?;
     match answer {
         Ok(resolved) => found(&resolved, out),
-        Err(refusal) => refused(refusal, out),
+        Err(refusal) => answer_lines::refused(refusal, out),
     }
-}
-
-// A name at the end of a line.
-fn end_with(name: &Name, out: &mut Vec<u8>) -> io::Result<()> {
-    out.write_all(name.as_bytes())?;
-    out.write_all(b"\n")
 }
 
 pub fn root(
@@ -81,9 +62,9 @@ pub fn root(
         Ok(RootName::Given(resolved)) => found(&resolved, out),
         Ok(RootName::Already(name)) => {
             out.write_all(b"has ")?;
-            end_with(&name, out)
+            answer_lines::end_with(&name, out)
         }
-        Err(refusal) => refused(refusal, out),
+        Err(refusal) => answer_lines::refused(refusal, out),
     }
 }
 
@@ -91,22 +72,10 @@ pub fn printed(symbol: SymbolRef, name: Option<Name>, out: &mut Vec<u8>) -> io::
     match name {
         Some(name) => {
             write!(out, "printed {}.{} ", symbol.owner, symbol.symbol)?;
-            end_with(&name, out)
+            answer_lines::end_with(&name, out)
         }
         None => writeln!(out, "unnamed {}.{}", symbol.owner, symbol.symbol),
     }
-}
-
-// Rows to be written over.
-pub fn blank_rows(heap: Global, count: usize) -> Result<Vec<NamedSymbol>, AllocError> {
-    let Ok(value) = Name::new(b"") else {
-        unreachable()
-    };
-    let key = SymbolRef {
-        owner: 0,
-        symbol: 0,
-    };
-    vec![in heap; NamedSymbol { key, value }; count]
 }
 
 // The named symbols, ascending by module and number.
@@ -117,13 +86,9 @@ pub fn names(
 ) -> io::Result<()> {
     if let Err(refusal) = count {
         out.write_all(b"names ")?;
-        return refused(refusal, out);
+        return answer_lines::refused(refusal, out);
     }
-    for row in rows {
-        write!(out, "name {} {} ", row.key.owner, row.key.symbol)?;
-        end_with(&row.value, out)?;
-    }
-    Ok(())
+    answer_lines::names(rows, out)
 }
 
 // The records, ascending by the bytes of their names.
@@ -132,10 +97,5 @@ pub fn records(heap: Global, renamer: &Renamer, out: &mut Vec<u8>) -> io::Result
         .filter_map(|i| renamer.record_at(i))
         .collect(heap)?;
     rows.sort_unstable_by_key(|row| row.key);
-    for row in &rows {
-        out.write_all(b"record ")?;
-        out.write_all(row.key.as_bytes())?;
-        writeln!(out, " {}", row.value)?;
-    }
-    Ok(())
+    answer_lines::records(&rows, out)
 }

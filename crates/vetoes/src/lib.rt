@@ -1,28 +1,57 @@
 // A policy that is a list of vetoes, for callers who bring their own.
 #![tactic(auto)]
 
-ghost use Rattle.std.specs.Prelude.{◌≡◌, true, false, ◌||◌, [], ◌∷◌, ◌++◌, is_ok, if◌then◌else◌};
+ghost use Rattle.std.specs.Prelude.{◌≡◌, ◌<◌, length, MatchResult, true, false, ◌||◌, [], ◌∷◌, ◌++◌, is_ok, if◌then◌else◌};
+ghost use Rattle.names.specs.Refusals.{number_of};
 ghost use Rattle.names.specs.Spelt.{spelt};
-ghost use Rattle.vetoes.specs.Vetoes.{bars, barred};
+ghost use Rattle.vetoes.specs.Vetoes.{covers, bars, barred};
 
 use conflict_resolver::policy::Policy;
 use names::name::Name;
+use names::refusal::Refusal;
 use std::alloc::{AllocError, Global};
 
-// A name, and which of its candidates are vetoed.
+// Which candidates of a name are vetoed.
+#[derive(Clone, Copy)]
+pub enum VetoKind {
+    Bare,
+    Numbered,
+    Both,
+}
+
+impl VetoKind {
+    fn covers(self, bare: bool) -> bool
+        ensures { result ≡ covers self bare }
+    {
+        match self {
+            VetoKind::Bare => bare,
+            VetoKind::Numbered => !bare,
+            VetoKind::Both => true,
+        }
+    }
+}
+
 #[derive(Clone, Copy)]
 pub struct Veto {
     pub name: Name,
-    pub bare: bool,
-    pub numbered: bool,
+    pub kind: VetoKind,
 }
 
 impl Veto {
+    // A veto on the name of this text, unless that is longer than 105 bytes.
+    pub fn new(kind: VetoKind, text: &[u8]) -> Result<Veto, Refusal>
+        ensures { MatchResult result
+            (λ veto. (veto.kind ≡ kind) × (spelt veto.name ≡ text.now))
+            (λ refusal. (number_of refusal ≡ 7) × (105 < length text.now)) }
+    {
+        let name = Name::new(text)?;
+        Ok(Veto { name, kind })
+    }
+
     fn bars(&self, candidate: &Name, bare: bool) -> bool
         ensures { result ≡ bars (spelt candidate.now) bare self.now }
     {
-        let kind = if bare { self.bare } else { self.numbered };
-        self.name == *candidate && kind
+        self.name == *candidate && self.kind.covers(bare)
     }
 }
 

@@ -1,5 +1,5 @@
 // Making a name, and what it spells.
-ghost use Rattle.std.specs.Prelude.{◌≡◌, ◌+◌, ◌<◌, ◌≤◌, ◌++◌, length, MatchResult};
+ghost use Rattle.std.specs.Prelude.{◌≡◌, ◌+◌, ◌<◌, ◌≤◌, [], ◌++◌, length, MatchResult};
 ghost use Rattle.std.specs.Str.{bytes_eq};
 ghost use Rattle.names.specs.Bases.{is_base};
 ghost use Rattle.names.specs.Refusals.{number_of};
@@ -16,6 +16,18 @@ pub fn is_base(text: &[u8]) -> bool
     !text.is_empty() && text.len() <= LONGEST_BASE
 }
 
+// The name without a byte, to fill memory with.
+impl Default for Name {
+    fn default() -> Name
+        ensures { spelt result ≡ [] }
+    {
+        Name {
+            len: 0,
+            bytes: [0; LONGEST_NAME],
+        }
+    }
+}
+
 impl Name {
     // The name with this text, unless the text is longer than 105 bytes.
     pub fn new(text: &[u8]) -> Result<Name, Refusal>
@@ -24,10 +36,7 @@ impl Name {
         if text.len() > LONGEST_NAME {
             return Err(Refusal::BadName);
         }
-        let mut name = Name {
-            len: 0,
-            bytes: [0; LONGEST_NAME],
-        };
+        let mut name = Name::default();
         name.append(text);
         Ok(name)
     }

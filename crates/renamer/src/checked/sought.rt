@@ -46,7 +46,7 @@ impl CheckedChunk {
         ensures room { room resolver.new ≡ room resolver.old }
         ensures slots { slots_of resolver.new ≡ slots_of resolver.old }
     {
-        let policy = FilePolicy::new(&self.chunk, &self.inner_binding_names);
+        let policy = FilePolicy::new(&self.inner_binding_names);
         resolver.resolve(base, &policy)
     }
 

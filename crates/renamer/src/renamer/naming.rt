@@ -78,12 +78,9 @@ impl Renamer {
         ensures keeps { Keeps self.old self.new }
     {
         let (canonical, base) = self.checked.root_of(symbol)?;
-        let already = self
-            .canonical_names
-            .name_of(canonical)
-            .map(RootName::Already);
+        let already = self.canonical_names.name_of(canonical);
         let None = already else {
-            return already.ok_or(Refusal::NoSuchSymbol);
+            return Ok(RootName::Already(already.unwrap()));
         };
         let resolved = self.seek(canonical, kind, &base)?;
         self.canonical_names.give(canonical, resolved.name)?;

@@ -10,7 +10,8 @@ ghost use Rattle.conflict_resolver.specs.Held.{held};
 ghost use Rattle.conflict_resolver.specs.Rows.{record_of};
 ghost use Rattle.given_names.specs.Held.{entries_of, given_in};
 ghost use Rattle.renamer.specs.Printed.{printed_name};
-ghost use Rattle.renamer.specs.State.{chunk_in};
+ghost use Rattle.renamer.specs.State.{chunk_in, session_of};
+ghost use Rattle.session_rules.specs.Laws.{Opened};
 
 use super::Renamer;
 use chunk_tables::chunk::Chunk;
@@ -45,8 +46,10 @@ impl Renamer {
     }
 
     // Writes the symbols with their names to the front of `out`, ascending by the symbols, and answers how many there are.
+    // No two have one name, none has a reserved one, and each has its own.
     pub fn list(&self, out: &mut [NamedSymbol]) -> Result<usize, Refusal>
-        ensures { MatchResult result (Listed symbol_under (entries_of self.now.canonical_names) out.old out.new) (λ e. (number_of e ≡ 15) × (length out.old < length (given_in self.now.canonical_names)) × (out.new ≡ out.old)) }
+        ensures opened { ∥ Opened (chunk_in self.now) (session_of self.now) ∥₁ }
+        ensures listed { MatchResult result (Listed symbol_under (entries_of self.now.canonical_names) out.old out.new) (λ e. (number_of e ≡ 15) × (length out.old < length (given_in self.now.canonical_names)) × (out.new ≡ out.old)) }
     {
         self.canonical_names.list(out)
     }

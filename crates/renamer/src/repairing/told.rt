@@ -8,7 +8,8 @@ ghost use Rattle.keyed_table.specs.Listed.{Listed};
 ghost use Rattle.given_names.specs.Held.{entries_of, given_in};
 ghost use Rattle.renamer.specs.Printed.{printed_name};
 ghost use Rattle.renamer.specs.Released.{Releases};
-ghost use Rattle.renamer.specs.State.{chunk_in};
+ghost use Rattle.renamer.specs.State.{chunk_in, session_of};
+ghost use Rattle.session_rules.specs.Laws.{Opened};
 
 use super::NestedScopeRenamer;
 use crate::memory::Memory;
@@ -71,7 +72,8 @@ impl NestedScopeRenamer {
 
     // Writes the symbols with their names to the front of `out`, ascending by the symbols, and answers how many there are.
     pub fn list(&self, out: &mut [NamedSymbol]) -> Result<usize, Refusal>
-        ensures { MatchResult result (Listed symbol_under (entries_of self.now.renamer.canonical_names) out.old out.new) (λ e. (number_of e ≡ 15) × (length out.old < length (given_in self.now.renamer.canonical_names)) × (out.new ≡ out.old)) }
+        ensures opened { ∥ Opened (chunk_in self.now.renamer) (session_of self.now.renamer) ∥₁ }
+        ensures listed { MatchResult result (Listed symbol_under (entries_of self.now.renamer.canonical_names) out.old out.new) (λ e. (number_of e ≡ 15) × (length out.old < length (given_in self.now.renamer.canonical_names)) × (out.new ≡ out.old)) }
     {
         self.renamer.list(out)
     }

@@ -5,7 +5,6 @@ use Rattle.names.specs.Spelt.{spelt}
 use Rattle.chunk_tables.specs.Links.{symbol_at}
 use Rattle.chunk_tables.specs.View.{chunk_of}
 use Rattle.conflict_resolver.specs.Held.{held}
-use Rattle.conflict_resolver.proofs.Reservations.{none_from}
 use Rattle.given_names.specs.Held.{given_in}
 use Rattle.session_rules.specs.Laws.{Opened}
 use Rattle.session_rules.specs.Session.{name_of}
@@ -30,7 +29,7 @@ invariant_of-self-clause-opened c =
     let q = c.in_ok-canonical.canonical in
     let es = held s.resolver in
     let hs = given_in c.give.new.self in
-    let unnamed : name_of (given_in r.canonical_names) q ≡ None = sym c.name_of.ensures ∙ ap (option_map spelt) (none_from _ (sym c.map-already.ensures.variant ∙ ap is_some c.in-None.is)) in
+    let unnamed : name_of (given_in r.canonical_names) q ≡ None = sym c.name_of-already.ensures ∙ ap (option_map spelt) c.in-None.is in
     let same = ap given_in c.seek.ensures.names in
     let opened = over_given C (session_of r) r.opened c.args.symbol c.args.kind (q, spelt c.in_ok-canonical.base) c.in_ok-resolved.resolved es c.give.result (given_in s.canonical_names) hs c.in_ok-canonical.ensures unnamed c.in_ok-resolved.ensures.rules same (λ e x. ap given_in x.2) c.give.ensures.given in
     subst (λ k. ∥ Opened (chunk_of k.chunk) (record { records = es; given = hs }) ∥₁) (sym c.seek.ensures.keeps.checked) opened
