@@ -1,8 +1,8 @@
 -- Helpers of other chunks, one after another. Assumes nothing.
-use Rattle.std.proofs.Common.{◌≡◌, ℕ, zero, suc, ◌+◌, ◌<◌, false, List, [], ◌∷◌, ◌++◌, length, map, take, drop, set, Some, Ok, Err, Result, sym, refl, ap, subst, ◌∙◌, arith, append_assoc, length-append}
+use Rattle.std.proofs.Common.{◌≡◌, ℕ, zero, suc, ◌+◌, ◌<◌, ◌≤◌, false, List, [], ◌∷◌, ◌++◌, length, map, take, drop, set, Some, Ok, Err, Result, sym, refl, ap, subst, ◌∙◌, arith, append_assoc, length-append}
 use Rattle.std.specs.List.{slice_get}
 use Rattle.std.specs.Option.{IfSome, option_map}
-use Rattle.std.proofs.lemmas.List.{at_drop_more, drop_all, length-map, map-append, take-append-drop, take_more_set}
+use Rattle.std.proofs.lemmas.List.{append-nil, at_drop_more, drop-map, length-map, length-take-le, map-append, take-append-drop, take_more_set}
 use Rattle.std.proofs.lemmas.Option.{slice_get-map, get_or_from_slice_get}
 use Rattle.names.specs.Bases.{is_base}
 use Rattle.names.specs.Refusals.{number_of}
@@ -17,7 +17,7 @@ use Rattle.session_rules.specs.Rules.{Answer, given, already, agreed, declines, 
 use Rattle.session_rules.specs.Session.{Session}
 use Rattle.renamer.specs.State.{chunk_in, session_of}
 use Rattle.renamer.specs.declared.renamer.Renamer.{Renamer}
-use Rattle.deconflict_chunk_symbols.specs.Drawing.{Drawn, drawn_as, draw, drawn_for, drawn, Draws}
+use Rattle.deconflict_chunk_symbols.specs.Drawing.{Drawn, drawn_as, draw, noted, drawn, overwritten, Draws}
 use Rattle.deconflict_chunk_symbols.specs.Performing.{then_on, following, at_row, Performs}
 use Rattle.deconflict_chunk_symbols.specs.Run.{helper_call}
 use Rattle.deconflict_chunk_symbols.specs.declared.helpers.RequireName.{RequireName}
@@ -67,39 +67,71 @@ pub row_at : (r s : Renamer) (a : Result (Unit {0}) Refusal) (p : ℕ) (o : Othe
 row_at r s a p o e h =
     as_seen _ _ _ (λ c. helper_call o) _ (sym (ap (λ x. maybe x [] (λ y. y)) (slice_get-map helper_call (chunk_in r).others p) ∙ ap (λ x. maybe (option_map helper_call x) [] (λ y. y)) e)) h
 
+-- one that is refused
+pub refused_draw : (r s : Renamer) (e : Refusal) (o : OtherChunk) → Performs r s (Err e) (λ c. helper_call o) → (why : ℕ) × ((draw (chunk_in r) (session_of r) o).answer ≡ declines why)
+refused_draw r s e o h = let t = draw (chunk_in r) (session_of r) o in on t.answer t.after (ap (λ u. u.answer) h.rules)
+  where
+    on : (a : Answer) (S : Session) → declines (number_of e) ≡ (following a S (λ T. unchanged T agreed)).answer → (why : ℕ) × (a ≡ declines why)
+    on (given n p) S x = absurd cc
+    on (already n) S x = absurd cc
+    on agreed S x = absurd cc
+    on (declines why) S x = (why, refl)
+
 module _ (c : Chunk) (os : List OtherChunk) (p : ℕ) (hs : List RequireName) (D : List Drawn) where
+  -- those that are drawn from a place on, by what is answered there
+  from_here : (S : Session) (o : OtherChunk) (a : Answer) → slice_get os p ≡ Some o → p < length os → (draw c S o).answer ≡ a
+      → drawn c S (drop p os) ≡ noted o.number a (drawn c (draw c S o).after (drop (p + 1) os))
+  from_here S o a e l is =
+      at_drop_more (drawn c S) os p o l
+      ∙ ap (λ x. drawn c S (x ∷ drop (p + 1) os)) (get_or_from_slice_get os p o o e)
+      ∙ ap (λ b. noted o.number b (drawn c (draw c S o).after (drop (p + 1) os))) is
+
+  -- a refusal ends it
+  pub none_left : (S : Session) (o : OtherChunk) (why : ℕ) → slice_get os p ≡ Some o → p < length os → (draw c S o).answer ≡ declines why → drawn c S (drop p os) ≡ []
+  none_left S o why e l is = from_here S o (declines why) e l is
+
   -- the names so far, with one more
-  pub names_more : (S T : Session) (o : OtherChunk) (h : RequireName) → slice_get os p ≡ Some o → p < length os → p < length hs → drawn_as h ≡ drawn_for c S o → T ≡ (draw c S o).after
+  pub names_more : (S T : Session) (o : OtherChunk) (h : RequireName) (q : ℕ) → slice_get os p ≡ Some o → p < length os → p < length hs
+      → (draw c S o).answer ≡ given (drawn_as h).name q → (drawn_as h).number ≡ o.number → T ≡ (draw c S o).after
       → map drawn_as (take p hs) ++ drawn c S (drop p os) ≡ D → map drawn_as (take (p + 1) (set hs p h)) ++ drawn c T (drop (p + 1) os) ≡ D
-  names_more S T o h e l m n after before =
+  names_more S T o h q e l m answer number after before =
       let rest = drop (p + 1) os in
       ap (λ xs. map drawn_as xs ++ drawn c T rest) (take_more_set hs p h m)
       ∙ ap (λ xs. xs ++ drawn c T rest) (map-append drawn_as (take p hs) (h ∷ []))
       ∙ append_assoc (map drawn_as (take p hs)) (drawn_as h ∷ []) (drawn c T rest)
-      ∙ ap (λ x. map drawn_as (take p hs) ++ (x ∷ drawn c T rest)) n
-      ∙ ap (λ U. map drawn_as (take p hs) ++ (drawn_for c S o ∷ drawn c U rest)) after
-      ∙ ap (λ x. map drawn_as (take p hs) ++ drawn c S (x ∷ rest)) (sym (get_or_from_slice_get os p o o e))
-      ∙ ap (λ xs. map drawn_as (take p hs) ++ xs) (sym (at_drop_more (drawn c S) os p o l))
+      ∙ ap (λ k. map drawn_as (take p hs) ++ (record { number = k; name = (drawn_as h).name } ∷ drawn c T rest)) number
+      ∙ ap (λ U. map drawn_as (take p hs) ++ noted o.number (given (drawn_as h).name q) (drawn c U rest)) after
+      ∙ ap (λ xs. map drawn_as (take p hs) ++ xs) (sym (from_here S o (given (drawn_as h).name q) e l answer))
       ∙ before
 
-  -- all names are there
-  pub names_all : (S : Session) (old : List RequireName) → length os ≡ p → map drawn_as (take p hs) ++ drawn c S (drop p os) ≡ D → drop p hs ≡ drop p old
-      → map drawn_as hs ≡ D ++ map drawn_as (drop (length os) old)
-  names_all S old e n rest =
-      let none : drop p os ≡ [] = drop_all p os (omega arith) in
-      let behind = map drawn_as (drop (length os) old) in
+  -- all names that are drawn are there
+  pub names_all : (S : Session) (old : List RequireName) → p ≤ length hs → drawn c S (drop p os) ≡ [] → map drawn_as (take p hs) ++ drawn c S (drop p os) ≡ D
+      → drop p hs ≡ drop p old → map drawn_as hs ≡ overwritten D (map drawn_as old)
+  names_all S old l none n rest =
+      let front : map drawn_as (take p hs) ≡ D = sym (append-nil (map drawn_as (take p hs))) ∙ ap (λ xs. map drawn_as (take p hs) ++ xs) (sym none) ∙ n in
+      let size : p ≡ length D = sym (length-take-le p hs l) ∙ sym (length-map (take p hs) drawn_as) ∙ ap length front in
       ap (map drawn_as) (sym (take-append-drop p hs))
       ∙ map-append drawn_as (take p hs) (drop p hs)
       ∙ ap (λ xs. map drawn_as (take p hs) ++ map drawn_as xs) rest
-      ∙ ap (λ k. map drawn_as (take p hs) ++ map drawn_as (drop k old)) (sym e)
-      ∙ sym (append_assoc (map drawn_as (take p hs)) [] behind)
-      ∙ ap (λ xs. xs ++ behind) (ap (λ xs. map drawn_as (take p hs) ++ drawn c S xs) (sym none) ∙ n)
+      ∙ ap (λ xs. map drawn_as (take p hs) ++ xs) (sym (drop-map drawn_as p old))
+      ∙ ap (λ xs. xs ++ drop p (map drawn_as old)) front
+      ∙ ap (λ k. D ++ drop k (map drawn_as old)) size
 
 -- a helper's name behind those so far
 pub names_drawn : (c : Chunk) (r s : Renamer) (p : ℕ) (hs : List RequireName) (D : List Drawn) (o : OtherChunk) (h : RequireName) → chunk_in r ≡ c → slice_get (chunk_in r).others p ≡ Some o
     → p < length c.others → p < length hs → Draws r s (Ok h) o → map drawn_as (take p hs) ++ drawn c (session_of r) (drop p c.others) ≡ D
     → map drawn_as (take (p + 1) (set hs p h)) ++ drawn c (session_of s) (drop (p + 1) c.others) ≡ D
 names_drawn c r s p hs D o h same e l m d before =
-    names_more c c.others p hs D (session_of r) (session_of s) o h (ap (λ k. slice_get k.others p) (sym same) ∙ e) l m
-    (d.name ∙ ap (λ k. drawn_for k (session_of r) o) same)
+    let (q, answer, number) = d.name in
+    names_more c c.others p hs D (session_of r) (session_of s) o h q (ap (λ k. slice_get k.others p) (sym same) ∙ e) l m
+    (ap (λ k. (draw k (session_of r) o).answer) (sym same) ∙ answer) number
     (left r s (helper (hint o.name)) d.performs ∙ ap (λ k. (draw k (session_of r) o).after) same) before
+
+-- the names so far, where the next is refused
+pub names_refused : (c : Chunk) (r s : Renamer) (p : ℕ) (hs old : List RequireName) (D : List Drawn) (o : OtherChunk) (e : Refusal) → chunk_in r ≡ c → slice_get (chunk_in r).others p ≡ Some o
+    → p < length c.others → p ≤ length hs → Draws r s (Err e) o → map drawn_as (take p hs) ++ drawn c (session_of r) (drop p c.others) ≡ D → drop p hs ≡ drop p old
+    → map drawn_as hs ≡ overwritten D (map drawn_as old)
+names_refused c r s p hs old D o e same is l m d before rest =
+    let (why, answer) = refused_draw r s e o d.performs in
+    names_all c c.others p hs D (session_of r) old m
+    (none_left c c.others p hs D (session_of r) o why (ap (λ k. slice_get k.others p) (sym same) ∙ is) l (ap (λ k. (draw k (session_of r) o).answer) (sym same) ∙ answer)) before rest

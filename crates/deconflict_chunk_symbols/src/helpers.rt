@@ -1,10 +1,9 @@
 // The helpers of other chunks.
-ghost use Rattle.std.specs.Prelude.{◌≡◌, ◌≤◌, ◌++◌, drop, length, map};
+ghost use Rattle.std.specs.Prelude.{◌≡◌, ◌≤◌, length, map};
 ghost use Rattle.std.specs.List.{slice_get};
 ghost use Rattle.std.specs.Option.{IfSome};
-ghost use Rattle.std.specs.Result.{OnOk};
 ghost use Rattle.renamer.specs.State.{chunk_in, session_of};
-ghost use Rattle.deconflict_chunk_symbols.specs.Drawing.{drawn_as, drawn, Draws};
+ghost use Rattle.deconflict_chunk_symbols.specs.Drawing.{drawn_as, drawn, overwritten, Draws};
 ghost use Rattle.deconflict_chunk_symbols.specs.Performing.{Performs};
 ghost use Rattle.deconflict_chunk_symbols.specs.Run.{helper_calls};
 
@@ -38,14 +37,15 @@ fn draw_helper(renamer: &mut Renamer, place: usize) -> Result<RequireName, Refus
     })
 }
 
-// A helper for each other chunk. Their names go to the front of `helpers`, and what stands behind them stays.
+// A helper for each other chunk, up to the first refusal. The names that are drawn go to the front of `helpers`, and what
+// stands behind them stays.
 pub(crate) fn draw_helpers(
     renamer: &mut Renamer,
     helpers: &mut [RequireName],
 ) -> Result<(), Refusal>
     requires { length (chunk_in renamer.old).others ≤ length helpers.old }
     ensures performs { Performs renamer.old renamer.new result helper_calls }
-    ensures names { OnOk result (map drawn_as helpers.new ≡ drawn (chunk_in renamer.old) (session_of renamer.old) (chunk_in renamer.old).others ++ map drawn_as (drop (length (chunk_in renamer.old).others) helpers.old)) }
+    ensures names { map drawn_as helpers.new ≡ overwritten (drawn (chunk_in renamer.old) (session_of renamer.old) (chunk_in renamer.old).others) (map drawn_as helpers.old) }
 {
     let count = other_count(renamer.chunk());
     for place in 0..count {

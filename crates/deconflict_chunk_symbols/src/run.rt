@@ -1,10 +1,9 @@
 // The run of a chunk: all its naming calls, in order.
-ghost use Rattle.std.specs.Prelude.{◌≡◌, ◌<◌, ◌++◌, drop, length, map};
-ghost use Rattle.std.specs.Result.{OnOk};
+ghost use Rattle.std.specs.Prelude.{◌≡◌, length, map};
 ghost use Rattle.chunk_tables.specs.View.{chunk_of};
 ghost use Rattle.renamer.specs.Answers.{told_end};
 ghost use Rattle.renamer.specs.State.{chunk_in, session_of, Keeps};
-ghost use Rattle.deconflict_chunk_symbols.specs.Drawing.{drawn_as, run_helpers, run_with};
+ghost use Rattle.deconflict_chunk_symbols.specs.Drawing.{drawn_as, overwritten, run_helpers, run_with};
 ghost use Rattle.deconflict_chunk_symbols.specs.Performing.{Performs, joined};
 ghost use Rattle.deconflict_chunk_symbols.specs.Run.{is_esm, namespaces_of, all_namespaces, namespace_calls, entry_calls, used_calls, members_calls, synthetic_calls, import_calls, naming_calls};
 
@@ -98,15 +97,14 @@ fn name_symbols(renamer: &mut Renamer) -> Result<(), Refusal>
 
 // Gives every symbol that the chunk prints at its top level its name, and every other chunk a helper. The helpers' names
 // go to the front of `helpers`, in the order of the other chunks, and what stands behind them stays. The first refusal
-// ends the run, and then the front of `helpers` may have names of those that were drawn. With fewer places than there are
-// other chunks the run is refused at once, and nothing has changed.
+// ends the run; what was given and drawn before it stays. With fewer places than there are other chunks the run is refused
+// at once, and nothing has changed.
 pub fn deconflict_chunk_symbols(
     renamer: &mut Renamer,
     helpers: &mut [RequireName],
 ) -> Result<(), Refusal>
     ensures rules { told_end result (session_of renamer.new) ≡ run_with (length helpers.old) (chunk_in renamer.old) (session_of renamer.old) }
-    ensures names { OnOk result (map drawn_as helpers.new ≡ run_helpers (chunk_in renamer.old) (session_of renamer.old) ++ map drawn_as (drop (length (chunk_in renamer.old).others) helpers.old)) }
-    ensures short { length helpers.old < length (chunk_in renamer.old).others → helpers.new ≡ helpers.old }
+    ensures names { map drawn_as helpers.new ≡ overwritten (run_helpers (length helpers.old) (chunk_in renamer.old) (session_of renamer.old)) (map drawn_as helpers.old) }
     ensures keeps { Keeps renamer.old renamer.new }
 {
     if helpers.len() < other_count(renamer.chunk()) {
