@@ -4,6 +4,7 @@ use Rattle.names.specs.Refusals.{number_of, words_of}
 use Rattle.names.specs.Spelt.{spelt}
 use Rattle.names.specs.declared.name.Name.{Name}
 use Rattle.names.specs.declared.refusal.Refusal.{Refusal}
+use Rattle.keys.specs.declared.refs.ChunkIdx.{ChunkIdx}
 use Rattle.keys.specs.declared.refs.SymbolRef.{SymbolRef}
 use Rattle.keyed_table.specs.declared.slot.Entry.{Entry}
 
@@ -20,6 +21,10 @@ fault_line number words = line (codes "line " ++ decimal number ++ codes ": " ++
 
 abbrev pub refused_line : Refusal → List ℕ
 refused_line r = line (codes "refused " ++ decimal (number_of r) ++ 32 ∷ words_of r)
+
+-- the number of another chunk, and the name of its helper
+abbrev pub helper_line : ChunkIdx → List ℕ → List ℕ
+helper_line chunk name = line (codes "helper " ++ decimal chunk.0 ++ 32 ∷ name)
 
 -- the name of a symbol, by module and number
 abbrev pub name_line : Entry SymbolRef Name → List ℕ

@@ -1,7 +1,6 @@
 // The lines of a document.
 use line_text::cut::cut;
 use line_text::numeral::number;
-use std::fmt;
 use vetoes::VetoKind;
 
 #[derive(Clone, Copy)]
@@ -29,9 +28,9 @@ pub enum Fault {
     SpaceAtEnd,
 }
 
-impl fmt::Display for Fault {
-    fn fmt<W: fmt::Write>(&self, f: &mut fmt::Formatter<W>) -> fmt::Result {
-        f.write_str(match self {
+impl Fault {
+    pub fn words(self) -> &'static str {
+        match self {
             Fault::NoSuchCommand => "no such command",
             Fault::RecordsNotFirst => "records comes first, and once",
             Fault::NoNumber => "how many records there are is a number of at most 32 bits",
@@ -40,7 +39,7 @@ impl fmt::Display for Fault {
             Fault::NoSuchVeto => "a veto is bare, numbered or both of a name, or all, or none",
             Fault::TooManyWords => "too many words",
             Fault::SpaceAtEnd => "a space at the end",
-        })
+        }
     }
 }
 

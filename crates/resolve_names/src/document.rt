@@ -1,6 +1,7 @@
 // Documents: each has its own records and vetoes.
 use crate::command::{Command, Fault, parse};
 use crate::print;
+use answer_lines::piece::write_each;
 use conflict_resolver::resolver::{ConflictResolver, NameRecord, RecordSlot, Resolved};
 use line_text::lines::Lines;
 use names::limits::MOST_RECORDS;
@@ -87,14 +88,14 @@ impl Session {
             .collect(heap)?;
         // There is a row for each record, so this is not refused.
         let _ = self.resolver.list(&mut rows);
-        answer_lines::records(&rows, out)
+        Ok(write_each(&rows, out)?)
     }
 }
 
 // Carries out the document that begins at the lines, and has no faulty one.
 fn perform(heap: Global, lines: Lines<'_>, records: u32, out: &mut Vec<u8>) -> io::Result<()> {
     if !(1..=MOST_RECORDS).contains(&records) {
-        return answer_lines::refused(Refusal::OutsideLimit, out);
+        return Ok(answer_lines::refused(Refusal::OutsideLimit, out)?);
     }
     let slots = vec![in heap; RecordSlot::empty(); records as usize]?;
     let mut session = Session {
@@ -111,7 +112,7 @@ fn perform(heap: Global, lines: Lines<'_>, records: u32, out: &mut Vec<u8>) -> i
 
 fn answer(heap: Global, lines: Lines<'_>, reading: Reading, out: &mut Vec<u8>) -> io::Result<()> {
     match reading.fault {
-        Some((number, fault)) => answer_lines::fault(number, &fault, out),
+        Some((number, fault)) => Ok(answer_lines::fault(number, fault.words(), out)?),
         None => perform(heap, lines, reading.records.unwrap_or(MOST_RECORDS), out),
     }
 }

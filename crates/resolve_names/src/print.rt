@@ -7,7 +7,7 @@ use std::io::{self, Write};
 pub fn name_refused(name: &[u8], refusal: Refusal, out: &mut Vec<u8>) -> io::Result<()> {
     out.write_all(name)?;
     out.write_all(b" ")?;
-    answer_lines::refused(refusal, out)
+    Ok(answer_lines::refused(refusal, out)?)
 }
 
 pub fn resolved(base: &[u8], found: &Resolved, out: &mut Vec<u8>) -> io::Result<()> {

@@ -82,7 +82,7 @@ fn answer_script(heap: Global, script: Script<'_>, out: &mut Vec<u8>) -> io::Res
         }
     };
     print::memory(&memory.sizes(), out)?;
-    answer_lines::done(out)
+    Ok(answer_lines::done(out)?)
 }
 
 // The document begins at a line with this number.
@@ -90,7 +90,7 @@ fn answer(heap: Global, first: usize, lines: &[&[u8]], out: &mut Vec<u8>) -> io:
     match read_script(heap, lines) {
         Ok(script) => answer_script(heap, script, out),
         Err(DocumentError::Faulty(line, fault)) => {
-            answer_lines::fault(first.saturating_add(line), &fault, out)
+            Ok(answer_lines::fault(first.saturating_add(line), fault.words(), out)?)
         }
         Err(DocumentError::NoMemory) => Err(AllocError.into()),
     }

@@ -1,4 +1,5 @@
 // The lines of the output that only this program has. A name need not be UTF-8, so it is written by its bytes.
+use answer_lines::piece::write_each;
 use chunk_faults::sizes::MemorySizes;
 use conflict_resolver::resolver::{NameRecord, Resolved};
 use given_names::NamedSymbol;
@@ -31,7 +32,7 @@ pub fn text_refused(
     out: &mut Vec<u8>,
 ) -> io::Result<()> {
     begin(verb, text, out)?;
-    answer_lines::refused(refusal, out)
+    Ok(answer_lines::refused(refusal, out)?)
 }
 
 fn found(resolved: &Resolved, out: &mut Vec<u8>) -> io::Result<()> {
@@ -48,7 +49,7 @@ pub fn search(
     begin(verb, text, out)?;
     match answer {
         Ok(resolved) => found(&resolved, out),
-        Err(refusal) => answer_lines::refused(refusal, out),
+        Err(refusal) => Ok(answer_lines::refused(refusal, out)?),
     }
 }
 
@@ -62,9 +63,9 @@ pub fn root(
         Ok(RootName::Given(resolved)) => found(&resolved, out),
         Ok(RootName::Already(name)) => {
             out.write_all(b"has ")?;
-            answer_lines::end_with(&name, out)
+            Ok(answer_lines::end_with(&name, out)?)
         }
-        Err(refusal) => answer_lines::refused(refusal, out),
+        Err(refusal) => Ok(answer_lines::refused(refusal, out)?),
     }
 }
 
@@ -72,7 +73,7 @@ pub fn printed(symbol: SymbolRef, name: Option<Name>, out: &mut Vec<u8>) -> io::
     match name {
         Some(name) => {
             write!(out, "printed {}.{} ", symbol.owner, symbol.symbol)?;
-            answer_lines::end_with(&name, out)
+            Ok(answer_lines::end_with(&name, out)?)
         }
         None => writeln!(out, "unnamed {}.{}", symbol.owner, symbol.symbol),
     }
@@ -86,9 +87,9 @@ pub fn names(
 ) -> io::Result<()> {
     if let Err(refusal) = count {
         out.write_all(b"names ")?;
-        return answer_lines::refused(refusal, out);
+        return Ok(answer_lines::refused(refusal, out)?);
     }
-    answer_lines::names(rows, out)
+    Ok(write_each(rows, out)?)
 }
 
 // The records, ascending by the bytes of their names.
@@ -97,5 +98,5 @@ pub fn records(heap: Global, renamer: &Renamer, out: &mut Vec<u8>) -> io::Result
         .filter_map(|i| renamer.record_at(i))
         .collect(heap)?;
     rows.sort_unstable_by_key(|row| row.key);
-    answer_lines::records(&rows, out)
+    Ok(write_each(&rows, out)?)
 }

@@ -1,0 +1,39 @@
+// The rows of listings, a line each.
+ghost use Rattle.answer_lines.specs.Lines.{name_line, record_line};
+
+use crate::END;
+use crate::piece::{Piece, write_each};
+use itoa::Buffer;
+use keyed_table::slot::Entry;
+use keys::refs::SymbolRef;
+use names::name::Name;
+use std::alloc::AllocError;
+
+// The name of a symbol.
+impl Piece for Entry<SymbolRef, Name> {
+    ghost text = { name_line };
+
+    fn write(&self, out: &mut Vec<u8>) -> Result<(), AllocError> {
+        let mut owner_digits = Buffer::new();
+        let owner = owner_digits.format(self.key.owner).as_bytes();
+        let mut symbol_digits = Buffer::new();
+        let symbol = symbol_digits.format(self.key.symbol).as_bytes();
+        let begin: &[u8] = b"name ";
+        write_each(
+            &[begin, owner, b" ", symbol, b" ", self.value.as_bytes(), END],
+            out,
+        )
+    }
+}
+
+// A name on record, and its counter.
+impl Piece for Entry<Name, u16> {
+    ghost text = { record_line };
+
+    fn write(&self, out: &mut Vec<u8>) -> Result<(), AllocError> {
+        let mut digits = Buffer::new();
+        let counter = digits.format(self.value).as_bytes();
+        let begin: &[u8] = b"record ";
+        write_each(&[begin, self.key.as_bytes(), b" ", counter, END], out)
+    }
+}
