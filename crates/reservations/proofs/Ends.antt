@@ -99,7 +99,7 @@ module _ (most : ℕ) where
           inr (f, rw g at size, (x, first x ns, rw g at h))
       on (recorded h) e ih = among_more x ns es why (ih fs l e)
       on (new h m) e ih =
-          let size : length (recording fs x) ≤ most = omega (arith, length_push fs (x, 0)) in
+          let size : length (recording fs x) ≤ most = omega (arith, length_push fs (record { name = x; counter = 0 })) in
           among_more x ns es why (ih (recording fs x) size e)
 
 pub reserves_the_names : ReservesTheNames

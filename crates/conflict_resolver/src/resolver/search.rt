@@ -1,12 +1,12 @@
 // The search.
-ghost use Rattle.std.specs.Prelude.{◌≡◌, ℕ, ◌<◌, ◌≤◌, true, length, ◌==◌};
+ghost use Rattle.std.specs.Prelude.{◌≡◌, ℕ, ◌≤◌, true, ◌==◌};
 ghost use Rattle.names.specs.Bases.{is_base};
 ghost use Rattle.names.specs.Forms.{Suffix};
 ghost use Rattle.names.specs.Spelt.{spelt};
 ghost use Rattle.conflict_resolver.specs.Answers.{looked, answered, Going};
 ghost use Rattle.conflict_resolver.specs.Held.{held, room, slots as slots_of};
 ghost use Rattle.conflict_resolver.specs.Laws.{Sound, Bounded};
-ghost use Rattle.conflict_resolver.specs.Records.{counter_of};
+ghost use Rattle.conflict_resolver.specs.Records.{counter_of, has_free};
 ghost use Rattle.conflict_resolver.specs.Rules.{next, follow, sight, run, searched};
 
 use super::ConflictResolver;
@@ -34,7 +34,7 @@ impl ConflictResolver {
         k: u16,
         policy: &P,
     ) -> Result<Option<u16>, Refusal>
-        requires free { length (held self.old) < room self.old }
+        requires free { has_free (room self.old) (held self.old) ≡ true }
         requires number { k ≤ 9999 }
         ensures follows { (p : ℕ) → looked result (held self.new) (spelt candidate.now) p ≡ follow (held self.old) (spelt candidate.now) k p (sight (counter_of (held self.old) (spelt candidate.now)) (P.vetoes policy.now (spelt candidate.now) (k == 0))) }
         ensures going { Going result self.new }
@@ -67,7 +67,7 @@ impl ConflictResolver {
     ) -> Result<Resolved, Refusal>
         requires base { is_base (spelt base.now) ≡ true }
         requires number { Suffix first }
-        requires free { length (held self.old) < room self.old }
+        requires free { has_free (room self.old) (held self.old) ≡ true }
         ensures runs { answered result (held self.new) ≡ run (P.vetoes policy.now) (spelt base.now) 4096 (next (held self.old) first 0) }
         ensures room { room self.new ≡ room self.old }
         ensures slots { slots_of self.new ≡ slots_of self.old }
@@ -101,7 +101,7 @@ impl ConflictResolver {
         if !base.is_base() {
             return Err(Refusal::BadName);
         }
-        if self.free() == 0 {
+        if !self.has_free_record() {
             return Err(Refusal::NoFreeRecord);
         }
         match self.look(base, 0, policy)? {

@@ -2,7 +2,7 @@ use Rattle.chunk_tables.specs.View.{chunk_of}
 use Rattle.names.specs.Refusals.{number_of}
 use Rattle.std.proofs.Common.{vec_len}
 use Rattle.policies.proofs.Room.{none_unnoted}
-use Rattle.policies.proofs.inner_names.InnerBindingNames.fill.Goals as goal
+use Rattle.policies.proofs.inner_names.InnerBindingNames.new.Goals as goal
 
 pub returns-in-Err-clause-room_for_a_sound_chunk : goal.returns-in-Err-clause-room_for_a_sound_chunk
 returns-in-Err-clause-room_for_a_sound_chunk c =
