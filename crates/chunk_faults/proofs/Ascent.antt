@@ -1,5 +1,5 @@
 -- The tests of every record stand by ascending numbers. Assumes nothing.
-use Rattle.std.proofs.Common.{ℕ, suc, List, [], ◌∷◌, map, lit<}
+use Rattle.std.proofs.Common.{ℕ, suc, Bool, List, [], ◌∷◌, map, lit<}
 use Rattle.std.specs.List.{flat_map, AllByRecursion as All}
 use Rattle.std.proofs.ByRecursion.{All-append}
 use Rattle.chunk_tables.specs.Model.{Module, Chunk}
@@ -10,7 +10,6 @@ use Rattle.chunk_faults.specs.ScopeRows.{scope_tests}
 use Rattle.chunk_faults.specs.SymbolRows.{symbol_tests}
 use Rattle.chunk_faults.specs.Tests.{each_from}
 use Rattle.chunk_faults.specs.Verdict.{scope_rows, symbol_rows, reference_rows, table_rows}
-use Rattle.chunk_faults.specs.declared.sizes.MemorySizes.{MemorySizes}
 use Rattle.chunk_faults.proofs.Judgement.{Ascending}
 
 module _ {A B : Type 0} (P : B → Type 0) where
@@ -89,8 +88,8 @@ module _ (c : Chunk) where
       all_each Ascending (symbol_tests c M)
       (λ i y. ((lit< tt, (lit< tt, (lit< tt, tt))), ((lit< tt, (lit< tt, tt)), ((lit< tt, tt), (tt, tt))))) 0 M.symbols
 
-  pub ascent : (z : MemorySizes) → All (All Ascending) (table_rows c z)
-  ascent z = (
+  pub ascent : (short : Bool) → All (All Ascending) (table_rows c short)
+  ascent short = (
     ((tt, tt), tt),
     (
       ((tt, tt), tt),

@@ -4,4 +4,4 @@ pub mod Judgement
 pub mod Ascent
 pub mod Facts
 pub mod Soundness
-pub mod Granted
+pub mod Verdicts

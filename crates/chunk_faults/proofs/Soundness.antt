@@ -7,11 +7,12 @@ use Rattle.chunk_tables.specs.declared.parts.Reference.{Reference}
 use Rattle.chunk_tables.specs.Bindings.{nearest, root_import}
 use Rattle.chunk_tables.specs.Formats.{of_code}
 use Rattle.chunk_tables.specs.Kinds.{is_normal}
+use Rattle.chunk_tables.specs.Limits.{scope_count, symbol_count, reference_count, too_large}
 use Rattle.chunk_tables.specs.Lists.{maybe, first_found}
 use Rattle.chunk_tables.specs.Links.{link_of, alias_of, canonical, end_after}
 use Rattle.chunk_tables.specs.Model.{Symbol, Unresolved, Module, OtherChunk, Chunk}
 use Rattle.chunk_tables.proofs.Chains.{canonical_linked, canonical_unlinked}
-use Rattle.chunk_faults.specs.Limits.{scope_count, symbol_count, reference_count, too_large, too_small, limit_tests}
+use Rattle.chunk_faults.specs.LimitRows.{limit_tests}
 use Rattle.chunk_faults.specs.ListRows.{name_tests, module_entry, own_entry, symbol_entry, entry_tests, falls, member_tests, unresolved_tests, statement_tests, other_tests, own_lists, own_list_rows, run_lists, all_lists}
 use Rattle.chunk_faults.specs.ModuleRows.{format_tests, namespace_of, runtime_strays, own_stray, no_module_tests, module_tests, module_rows}
 use Rattle.chunk_faults.specs.Numbers.{is_module, missing}
@@ -21,7 +22,6 @@ use Rattle.chunk_faults.specs.Sound.{There, SoundOwn, SoundScope, SoundSymbol, S
 use Rattle.chunk_faults.specs.SymbolRows.{clashes, misplaced, endless, circles, doubly_aliased, elsewhere, stray_import, symbol_tests}
 use Rattle.chunk_faults.specs.Tests.{Test, least}
 use Rattle.chunk_faults.specs.Verdict.{scope_rows, symbol_rows, reference_rows, table_rows, verdict}
-use Rattle.chunk_faults.specs.declared.sizes.MemorySizes.{MemorySizes}
 use Rattle.chunk_faults.proofs.Facts.{fails, row_passes, entry_passes, part_passes, is_some, is_none, at_some, below, there, leads, own_number, fit, any_nth, nth_take, nth_within, root_import_lem, bindings_apart}
 use Rattle.chunk_faults.proofs.Firsts.{none_some, found_none}
 
@@ -32,18 +32,13 @@ under a b e h = sym (ap (λ x. x && b) h) ∙ e
 positive : (i : ℕ) → 0 < i → not (eqb i 0) ≡ true
 positive i l = not_from_false (eqb i 0) (⊎_elim (λ t. let e = eqb-true i 0 t in absurd (omega arith)) (λ f. f) (cases_Bool (eqb i 0)))
 
-sound_limits : (c : Chunk) (z : MemorySizes) → (too_large c || too_small c z) ≡ false → SoundLimits c z
-sound_limits c z e =
-    let p = or_parts (too_large c) (too_small c z) e in
-    let a = or_parts _ _ p.0 in
+sound_limits : (c : Chunk) → too_large c ≡ false → SoundLimits c
+sound_limits c e =
+    let a = or_parts _ _ e in
     let b = or_parts _ _ a.1 in
     let d = or_parts _ _ b.1 in
     let f = or_parts _ _ d.1 in
     let g = or_parts _ _ f.1 in
-    let s = or_parts _ _ p.1 in
-    let t = or_parts _ _ s.1 in
-    let u = or_parts _ _ t.1 in
-    let v = or_parts _ _ u.1 in
     record {
       modules = ltb-false 256 (length c.modules) a.0;
       scopes = ltb-false 16384 (scope_count c) b.0;
@@ -51,11 +46,6 @@ sound_limits c z e =
       references = ltb-false 32768 (reference_count c) f.0;
       some_records = let ne = eqb-false c.records 0 g.0 in omega (arith, ne);
       records = ltb-false 4096 c.records g.1;
-      for_records = ltb-false z.records c.records s.0;
-      for_names = ltb-false z.names (symbol_count c) t.0;
-      for_inner = ltb-false z.inner (symbol_count c) u.0;
-      for_marks = ltb-false z.marks (length c.modules) v.0;
-      for_helpers = ltb-false z.helpers (length c.others) v.1;
     }
 
 sound_own : (M : Module) → own_stray M ≡ false → SoundOwn M
@@ -187,10 +177,10 @@ linked c q l e = on (slice_get c.modules q.owner) refl e
     on None h e = absurd (none_some e)
     on (Some M) h e = in_module M h (slice_get M.symbols q.symbol) refl e
 
-module _ (c : Chunk) (z : MemorySizes) (v : verdict c z ≡ None) where
+module _ (c : Chunk) (short : Bool) (v : verdict c short ≡ None) where
   -- no record of a table is refused
-  table : (k : ℕ) (rows : List (List Test)) → slice_get (table_rows c z) k ≡ Some rows → first_found least rows ≡ None
-  table k rows h = found_none (first_found least) (table_rows c z) v k rows h
+  table : (k : ℕ) (rows : List (List Test)) → slice_get (table_rows c short) k ≡ Some rows → first_found least rows ≡ None
+  table k rows h = found_none (first_found least) (table_rows c short) v k rows h
 
   scope_passes : (m : ℕ) (M : Module) → slice_get c.modules m ≡ Some M → (i p : ℕ) → slice_get M.parents i ≡ Some p → least (scope_tests M i p) ≡ None
   scope_passes m M h = row_passes (scope_tests M) M.parents (part_passes scope_rows c.modules (table 3 _ refl) m M h)
@@ -267,16 +257,19 @@ module _ (c : Chunk) (z : MemorySizes) (v : verdict c z ≡ None) where
             let a = fails (other_tests c k o) (other k o h) in
             record {
               imports = λ j q p. there c q (any_nth (missing c) o.imports j q a.0 p);
-              hint = ltb-false 100 (8 + length o.name) a.1.1.0;
+              hint = not-false _ a.1.1.0;
             };
         rising = λ k o p ho hp.
             let a = fails (other_tests c (suc k) p) (other (suc k) p hp) in
             below o.number p.number (at_some (slice_get c.others k) (λ x. not (ltb x.number p.number)) o ho a.1.0);
       }
 
-  pub sound : Sound c z
+  within : (too_large c ≡ false) × (short ≡ false)
+  within = or_parts (too_large c) short (fails (limit_tests c short) (found_none least (limit_tests c short ∷ []) (table 0 _ refl) 0 _ refl)).0
+
+  sound : Sound c
   sound = record {
-    limits = sound_limits c z (fails (limit_tests c z) (found_none least (limit_tests c z ∷ []) (table 0 _ refl) 0 _ refl)).0;
+    limits = sound_limits c within.0;
     format = is_some (of_code c.format) (not-false _ (fails (format_tests c) (found_none least (format_tests c ∷ []) (table 1 _ refl) 0 _ refl)).0);
     runtime = λ m h. below m (length c.modules) (at_some c.runtime (λ k. not (is_module c k)) m h (module_parts c.modules (table 2 _ refl)).0);
     ends = ends;
@@ -284,3 +277,6 @@ module _ (c : Chunk) (z : MemorySizes) (v : verdict c z ≡ None) where
     members = sound_members c (row_passes (member_tests c) c.members (any_list 1 _ refl));
     lists = sound_lists;
   }
+
+  pub passes : Sound c × (short ≡ false)
+  passes = (sound, within.1)

@@ -1,6 +1,6 @@
 pub mod Tests
 pub mod Numbers
-pub mod Limits
+pub mod LimitRows
 pub mod ModuleRows
 pub mod ScopeRows
 pub mod SymbolRows

@@ -1,8 +1,9 @@
 -- The tests of the entries of lists. Assumes nothing.
-use Rattle.std.specs.Prelude.{ℕ, ◌+◌, Bool, false, not, ◌||◌, ltb, List, [], ◌∷◌, map, length, take, is_some, nat_eq, nat_lt}
+use Rattle.std.specs.Prelude.{ℕ, Bool, false, not, ◌||◌, ltb, List, [], ◌∷◌, map, take, is_some, nat_eq, nat_lt}
 use Rattle.std.specs.List.{list_any, flat_map, slice_get}
 use Rattle.keys.specs.declared.refs.SymbolRef.{SymbolRef}
 use Rattle.names.specs.Bases.{is_base}
+use Rattle.hints.specs.Hints.{hint}
 use Rattle.chunk_tables.specs.declared.chunk.EntrySymbol.{EntrySymbol}
 use Rattle.chunk_tables.specs.Bindings.{nearest}
 use Rattle.chunk_tables.specs.Kinds.{is_normal}
@@ -54,13 +55,9 @@ statement_tests c s = (2, list_any (missing c) s.declared) ∷ []
 abbrev pub not_above : Chunk → ℕ → OtherChunk → Bool
 not_above c k o = maybe (row_before c.others k) false (λ p. not (nat_lt p.number o.number))
 
--- the hint of another chunk's helper is `require_`, eight bytes, and its name, byte by byte
-abbrev pub hint_too_long : OtherChunk → Bool
-hint_too_long o = nat_lt 100 (8 + length o.name)
-
--- another chunk is one record, with all that is imported from it
+-- another chunk is one record, with all that is imported from it; its helper is to be called by a hint
 abbrev pub other_tests : Chunk → ℕ → OtherChunk → List Test
-other_tests c k o = (2, list_any (missing c) o.imports) ∷ (3, not_above c k o) ∷ (7, hint_too_long o) ∷ []
+other_tests c k o = (2, list_any (missing c) o.imports) ∷ (3, not_above c k o) ∷ (7, not (is_base (hint o.name))) ∷ []
 
 -- the lists of a module
 abbrev pub own_lists : Chunk → Module → List (List (List Test))

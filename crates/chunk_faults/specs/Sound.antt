@@ -1,7 +1,9 @@
 -- What the tables of a granted chunk have. Assumes nothing.
-use Rattle.std.specs.Prelude.{◌≡◌, ℕ, suc, ◌+◌, ◌<◌, ◌≤◌, true, false, length, Some, None}
+use Rattle.std.specs.Prelude.{◌≡◌, ℕ, suc, ◌<◌, ◌≤◌, true, false, length, Some, None}
 use Rattle.std.specs.List.{slice_get}
 use Rattle.keys.specs.declared.refs.SymbolRef.{SymbolRef}
+use Rattle.names.specs.Bases.{is_base}
+use Rattle.hints.specs.Hints.{hint}
 use Rattle.chunk_tables.specs.declared.chunk.EntrySymbol.{EntrySymbol}
 use Rattle.chunk_tables.specs.declared.format.Format.{Format}
 use Rattle.chunk_tables.specs.declared.parts.Reference.{Reference}
@@ -10,10 +12,9 @@ use Rattle.chunk_tables.specs.Formats.{of_code}
 use Rattle.chunk_tables.specs.Kinds.{is_normal}
 use Rattle.chunk_tables.specs.Links.{symbol_at, link_of, alias_of, canonical}
 use Rattle.chunk_tables.specs.Model.{Name, Symbol, Unresolved, Statement, Module, OtherChunk, Chunk}
-use Rattle.chunk_faults.specs.Limits.{scope_count, symbol_count, reference_count}
+use Rattle.chunk_tables.specs.Limits.{scope_count, symbol_count, reference_count}
 use Rattle.chunk_faults.specs.ModuleRows.{namespace_of}
 use Rattle.chunk_faults.specs.SymbolRows.{elsewhere}
-use Rattle.chunk_faults.specs.declared.sizes.MemorySizes.{MemorySizes}
 
 -- a name from which names can be made
 abbrev pub Fit : Name → Type 0
@@ -84,18 +85,13 @@ pub record SoundModule (c : Chunk) (M : Module) : Type 0 where
   pub unresolved : (k : ℕ) (u : Unresolved) → slice_get M.unresolved k ≡ Some u → SoundUnresolved M u
   pub statements : (k j : ℕ) (s : Statement) (q : SymbolRef) → slice_get M.statements k ≡ Some s → slice_get s.declared j ≡ Some q → There c q
 
-pub record SoundLimits (c : Chunk) (z : MemorySizes) : Type 0 where
+pub record SoundLimits (c : Chunk) : Type 0 where
   pub modules : length c.modules ≤ 256
   pub scopes : scope_count c ≤ 16384
   pub symbols : symbol_count c ≤ 16384
   pub references : reference_count c ≤ 32768
   pub some_records : 1 ≤ c.records
   pub records : c.records ≤ 4096
-  pub for_records : c.records ≤ z.records
-  pub for_names : symbol_count c ≤ z.names
-  pub for_inner : symbol_count c ≤ z.inner
-  pub for_marks : length c.modules ≤ z.marks
-  pub for_helpers : length c.others ≤ z.helpers
 
 -- the chunk's modules
 pub record SoundMembers (c : Chunk) : Type 0 where
@@ -106,7 +102,8 @@ pub record SoundMembers (c : Chunk) : Type 0 where
 
 pub record SoundOther (c : Chunk) (o : OtherChunk) : Type 0 where
   pub imports : (j : ℕ) (q : SymbolRef) → slice_get o.imports j ≡ Some q → There c q
-  pub hint : 8 + length o.name ≤ 100
+  -- names can be made from the hint of its helper
+  pub hint : is_base (hint o.name) ≡ true
 
 pub record SoundLists (c : Chunk) : Type 0 where
   pub globals : (k : ℕ) (n : Name) → slice_get c.globals k ≡ Some n → Fit n
@@ -120,8 +117,8 @@ pub record SoundLists (c : Chunk) : Type 0 where
   -- the numbers of other chunks rise
   pub rising : (k : ℕ) (o p : OtherChunk) → slice_get c.others k ≡ Some o → slice_get c.others (suc k) ≡ Some p → o.number < p.number
 
-pub record Sound (c : Chunk) (z : MemorySizes) : Type 0 where
-  pub limits : SoundLimits c z
+pub record Sound (c : Chunk) : Type 0 where
+  pub limits : SoundLimits c
   pub format : (f : Format) × (of_code c.format ≡ Some f)
   pub runtime : (m : ℕ) → c.runtime ≡ Some m → m < length c.modules
   -- every chain of links ends

@@ -1,10 +1,9 @@
 -- The tables in the order in which they are checked, and what the check comes to. Assumes nothing.
-use Rattle.std.specs.Prelude.{ℕ, List, [], ◌∷◌, map, Option}
+use Rattle.std.specs.Prelude.{ℕ, Bool, List, [], ◌∷◌, map, Option}
 use Rattle.std.specs.List.{flat_map}
 use Rattle.chunk_tables.specs.Lists.{first_found}
 use Rattle.chunk_tables.specs.Model.{Module, Chunk}
-use Rattle.chunk_faults.specs.declared.sizes.MemorySizes.{MemorySizes}
-use Rattle.chunk_faults.specs.Limits.{limit_tests}
+use Rattle.chunk_faults.specs.LimitRows.{limit_tests}
 use Rattle.chunk_faults.specs.ModuleRows.{format_tests, module_rows}
 use Rattle.chunk_faults.specs.ScopeRows.{scope_tests}
 use Rattle.chunk_faults.specs.SymbolRows.{symbol_tests}
@@ -22,10 +21,11 @@ symbol_rows c M = each_row (symbol_tests c M) M.symbols
 abbrev pub reference_rows : Chunk → Module → List (List Test)
 reference_rows c M = map (reference_tests c M) M.references
 
--- each table's records with their tests: limits, format, modules, scopes, symbols, references, lists
-abbrev pub table_rows : Chunk → MemorySizes → List (List (List Test))
-table_rows c z =
-    (limit_tests c z ∷ [])
+-- each table's records with their tests: limits, format, modules, scopes, symbols, references, lists; `short` tells whether
+-- the memory is too small for the chunk
+abbrev pub table_rows : Chunk → Bool → List (List (List Test))
+table_rows c short =
+    (limit_tests c short ∷ [])
     ∷ (format_tests c ∷ [])
     ∷ module_rows c c.modules
     ∷ flat_map scope_rows c.modules
@@ -35,5 +35,5 @@ table_rows c z =
     ∷ []
 
 -- the smallest number of the first faulty record of the first table that has one
-abbrev pub verdict : Chunk → MemorySizes → Option ℕ
-verdict c z = first_found (first_found least) (table_rows c z)
+abbrev pub verdict : Chunk → Bool → Option ℕ
+verdict c short = first_found (first_found least) (table_rows c short)

@@ -3,9 +3,8 @@
 
 ghost use Rattle.chunk_faults.specs.Laws.{TellsTheLeastFault, PassesSoundTables};
 
-pub mod sizes;
-
-// Stands for what a verdict says: it tells the least fault, and where it tells none the tables are sound.
+/// Stands for what a verdict says: it tells the least fault, and where it tells none the tables are sound and the memory
+/// is not too small.
 pub fn laws()
     ensures least { TellsTheLeastFault }
     ensures sound { PassesSoundTables }

@@ -2,3 +2,4 @@ pub mod Chains
 pub mod Walks
 pub mod Finds
 pub mod Mapped
+mod Counting

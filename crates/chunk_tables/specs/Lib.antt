@@ -8,3 +8,5 @@ pub mod Cursor
 pub mod Bindings
 pub mod Fixed
 pub mod Kinds
+pub mod Limits
+pub mod Counted

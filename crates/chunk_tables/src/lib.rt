@@ -6,6 +6,8 @@ pub mod chunk;
 pub mod fixed;
 pub mod format;
 pub mod kind;
+pub mod limits;
 pub mod links;
 pub mod parts;
 pub mod scopes;
+pub mod totals;

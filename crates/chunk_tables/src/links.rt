@@ -6,11 +6,9 @@ ghost use Rattle.chunk_tables.specs.Links.{symbol_at, link_of, alias_of, follow,
 ghost use Rattle.chunk_tables.specs.View.{chunk_of, module_of, symbol_of};
 
 use crate::chunk::{Chunk, Module};
+use crate::limits::MOST_SYMBOLS;
 use crate::parts::Symbol;
 use keys::refs::SymbolRef;
-
-// A chunk has no more symbols than this, so a longer chain of links is a circle.
-pub const MOST_SYMBOLS: usize = 16384;
 
 impl Module {
     pub fn symbol_at(&self, number: usize) -> Option<&Symbol>

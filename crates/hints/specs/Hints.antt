@@ -13,6 +13,10 @@ cleaned_byte b = if is_plain b then b else 95
 abbrev pub cleaned : List ℕ → List ℕ
 cleaned n = map cleaned_byte n
 
+-- how every hint begins
+abbrev pub prefix : List ℕ
+prefix = codes "require_"
+
 -- how the helper of a chunk with this name is to be called
 abbrev pub hint : List ℕ → List ℕ
-hint n = codes "require_" ++ cleaned n
+hint n = prefix ++ cleaned n

@@ -1,11 +1,12 @@
 -- What holds of cleaned names and hints. Assumes nothing.
-use Rattle.std.specs.Prelude.{◌≡◌, ℕ, ◌≤◌, true, List, length, codes}
+use Rattle.std.specs.Prelude.{◌≡◌, ℕ, true, List, ◌++◌, length, codes}
 use Rattle.std.specs.List.{All}
 use Rattle.names.specs.Bases.{is_base}
-use Rattle.hints.specs.Hints.{is_plain, cleaned, hint}
+use Rattle.hints.specs.Hints.{is_plain, cleaned, prefix, hint}
 
-abbrev pub HintsAreBases : Type 0
-HintsAreBases = (n : List ℕ) → length n ≤ 92 → is_base (hint n) ≡ true
+-- a hint is a base just where it would be one with the name as it stands: only how long the name is counts
+abbrev pub JudgedUncleaned : Type 0
+JudgedUncleaned = (n : List ℕ) → is_base (hint n) ≡ is_base (prefix ++ n)
 
 abbrev pub CleanedIsPlain : Type 0
 CleanedIsPlain = (n : List ℕ) → All (λ b. is_plain b ≡ true) (cleaned n)

@@ -1,17 +1,18 @@
 // The hints after which the helpers of other chunks are named.
 #![tactic(auto)]
 
-ghost use Rattle.std.specs.Prelude.{◌≡◌, ◌<◌, ◌≤◌, ◌++◌, length, drop, MatchResult};
+ghost use Rattle.std.specs.Prelude.{◌≡◌, ◌≤◌, true, false, ◌++◌, length, drop, MatchResult};
+ghost use Rattle.names.specs.Bases.{is_base};
 ghost use Rattle.names.specs.Refusals.{number_of};
 ghost use Rattle.names.specs.Spelt.{spelt};
 ghost use Rattle.hints.specs.Hints.{is_plain, cleaned_byte, cleaned, hint};
-ghost use Rattle.hints.specs.Laws.{HintsAreBases, CleanedIsPlain, CleanedStays, KeepsLength, Example};
+ghost use Rattle.hints.specs.Laws.{JudgedUncleaned, CleanedIsPlain, CleanedStays, KeepsLength, Example};
 
 use names::limits::LONGEST_BASE;
 use names::name::Name;
 use names::refusal::Refusal;
 
-// How a hint begins; the chunk's name follows, cleaned.
+// How every hint begins; the chunk's name follows, cleaned.
 const PREFIX: &[u8] = b"require_";
 
 // Whether a byte of a chunk's name can stand in a hint.
@@ -38,23 +39,37 @@ fn legitimize(name: &[u8], out: &mut [u8])
     }
 }
 
-// How the helper of a chunk with this name is to be called. A hint is a base, so the name has at most 92 bytes.
-pub fn require_hint(chunk_name: &[u8]) -> Result<Name, Refusal>
-    ensures { MatchResult result (λ n. (spelt n ≡ hint chunk_name.now) × (length chunk_name.now ≤ 92)) (λ e. (number_of e ≡ 7) × (92 < length chunk_name.now)) }
+/// Whether the hint of a chunk of this name is a base. It is none where the name is too long, and then no helper can be
+/// named for the chunk.
+pub fn has_hint(chunk_name: &[u8]) -> bool
+    ensures { result ≡ is_base (hint chunk_name.now) }
 {
-    let len = PREFIX.len() + chunk_name.len();
-    if len > LONGEST_BASE {
+    PREFIX.len() + chunk_name.len() <= LONGEST_BASE
+}
+
+/// How the helper of a chunk of this name is to be called, refused with 7 where that is no base. A helper of the chunk
+/// `lib/util.js` is drawn as `require_lib_util_js`, or as a numbered form of it where that name is taken:
+///
+/// ```js
+/// const require_lib_util_js = require("./lib/util.js");
+/// ```
+pub fn require_hint(chunk_name: &[u8]) -> Result<Name, Refusal>
+    ensures { MatchResult result (λ n. (spelt n ≡ hint chunk_name.now) × (is_base (hint chunk_name.now) ≡ true)) (λ e. (number_of e ≡ 7) × (is_base (hint chunk_name.now) ≡ false)) }
+{
+    if !has_hint(chunk_name) {
         return Err(Refusal::BadName);
     }
+    let len = PREFIX.len() + chunk_name.len();
     let mut hint = [0; LONGEST_BASE];
     hint[..PREFIX.len()].copy_from_slice(PREFIX);
     legitimize(chunk_name, &mut hint[PREFIX.len()..]);
     Name::new(&hint[..len])
 }
 
-// Stands for what holds of each name: its hint is a base, and to clean it once is enough and keeps its length.
+/// Stands for what holds of each name: cleaning leaves plain bytes, keeps the length, and does nothing more a second time,
+/// and so the hint is a base just where it would be one without cleaning.
 pub fn laws()
-    ensures base { HintsAreBases }
+    ensures base { JudgedUncleaned }
     ensures plain { CleanedIsPlain }
     ensures settled { CleanedStays }
     ensures length { KeepsLength }

@@ -1,2 +1,3 @@
-pub mod Needs
+pub mod Sizes
+pub mod Memory
 pub mod Laws

@@ -1,20 +1,17 @@
 // The other chunks from which symbols are imported.
 ghost use Rattle.std.specs.Prelude.{◌≡◌, not, nat_lt};
 ghost use Rattle.chunk_tables.specs.View.{chunk_of, other_of};
-ghost use Rattle.chunk_faults.specs.ListRows.{not_above, hint_too_long, other_tests};
+ghost use Rattle.chunk_faults.specs.ListRows.{not_above, other_tests};
 ghost use Rattle.chunk_faults.specs.Tests.{least, told};
 
 use super::entries::has_missing;
 use super::members::row_before;
 use chunk_tables::chunk::{Chunk, OtherChunk};
+use hints::has_hint;
 use keys::ascend::ascends;
 use keys::refs::ChunkIdx;
-use names::limits::LONGEST_BASE;
 use names::refusal::Refusal;
 use row_checks::rows::refuse_if;
-
-// How a helper's hint begins; the other chunk's name follows, byte by byte. A hint is a base.
-const HINT_PREFIX: &[u8] = b"require_";
 
 // Whether the second number does not stand above the first. That keys ascend is told by one check alone.
 fn is_not_above(first: ChunkIdx, second: ChunkIdx) -> bool
@@ -29,17 +26,11 @@ fn is_out_of_order(chunk: &Chunk, k: usize, other: &OtherChunk) -> bool
     row_before(&chunk.other_chunks, k).is_some_and(|before| is_not_above(before.index, other.index))
 }
 
-fn has_long_hint(other: &OtherChunk) -> bool
-    ensures { result ≡ hint_too_long (other_of other.now) }
-{
-    HINT_PREFIX.len() + other.name.len() > LONGEST_BASE
-}
-
 // Refuses the chunk with the smallest number of a test that holds.
 pub(crate) fn check_other(chunk: &Chunk, k: usize, other: &OtherChunk) -> Result<(), Refusal>
     ensures { told result ≡ least (other_tests (chunk_of chunk.now) k (other_of other.now)) }
 {
     refuse_if(has_missing(chunk, &other.imports), Refusal::OutOfRange)?;
     refuse_if(is_out_of_order(chunk, k, other), Refusal::OutOfOrder)?;
-    refuse_if(has_long_hint(other), Refusal::BadName)
+    refuse_if(!has_hint(&other.name), Refusal::BadName)
 }

@@ -1,8 +1,8 @@
 use Rattle.std.proofs.Common.{rules, ◌≡◌, ◌+◌, ◌-◌, ◌^◌, min, ap, refl, ◌∙◌}
 use Rattle.std.proofs.lemmas.Fn.{fold_over, slice_gives, fronts}
-use Rattle.chunk_faults.specs.Limits.{in_all}
-use Rattle.table_checks.proofs.Totals.{count_more}
-use Rattle.table_checks.proofs.limits.total_of.Goals as goal
+use Rattle.chunk_tables.specs.Limits.{in_all}
+use Rattle.chunk_tables.proofs.Counting.{count_more}
+use Rattle.chunk_tables.proofs.totals.total_of.Goals as goal
 
 pub returns : goal.returns
 returns g c counts h =

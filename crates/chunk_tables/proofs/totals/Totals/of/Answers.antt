@@ -1,7 +1,7 @@
 use Rattle.std.proofs.Common.{rules, length}
 use Rattle.std.proofs.lemmas.List.{length-map}
-use Rattle.table_checks.proofs.Totals.{count_all}
-use Rattle.table_checks.proofs.limits.Totals.of.Goals as goal
+use Rattle.chunk_tables.proofs.Counting.{count_all}
+use Rattle.chunk_tables.proofs.totals.Totals.of.Goals as goal
 
 pub returns : goal.returns
 returns c =

@@ -3,7 +3,7 @@ use Rattle.std.proofs.Common.{◌≡◌, ℕ, ◌+◌, ◌-◌, ◌^◌, min, Li
 use Rattle.chunk_tables.specs.Model.{Module}
 use Rattle.chunk_tables.specs.View.{module_of}
 use Rattle.chunk_tables.specs.declared.chunk.Module as modules
-use Rattle.chunk_faults.specs.Limits.{in_all}
+use Rattle.chunk_tables.specs.Limits.{in_all}
 
 in_all_push : {A : Type 0} (f : A → ℕ) (xs : List A) (x : A) → in_all f (xs ++ x ∷ []) ≡ in_all f xs + f x
 in_all_push f [] x = omega arith

@@ -1,8 +1,8 @@
 -- Rows as a machine counts them. Assumes nothing.
 use Rattle.std.specs.Prelude.{◌≡◌, ◌-◌, ◌^◌, min, List, length}
 use Rattle.chunk_tables.specs.Model.{Module}
-use Rattle.chunk_faults.specs.Limits.{in_all}
-use Rattle.table_checks.specs.declared.limits.Totals.{Totals}
+use Rattle.chunk_tables.specs.Limits.{in_all}
+use Rattle.chunk_tables.specs.declared.totals.Totals.{Totals}
 
 pub record Counted (Ms : List Module) (t : Totals) : Type 0 where
   pub scopes : t.scopes ≡ min (in_all (λ M. length M.parents) Ms) (2 ^ 64 - 1)

@@ -1,7 +1,7 @@
--- How much memory a session is given. Assumes nothing.
+-- How many entries memory has. Assumes nothing.
 use Rattle.std.specs.Prelude.{vec_len}
-use Rattle.chunk_faults.specs.declared.sizes.MemorySizes.{MemorySizes}
-use Rattle.renamer.specs.declared.memory.Memory.{Memory}
+use Rattle.session_memory.specs.declared.memory.Memory.{Memory}
+use Rattle.session_memory.specs.declared.sizes.MemorySizes.{MemorySizes}
 
 abbrev pub sizes_of : Memory → MemorySizes
 sizes_of m = record {
