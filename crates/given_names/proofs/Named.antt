@@ -17,11 +17,11 @@ use Rattle.keyed_table.specs.declared.slot.Entry.{Entry}
 use Rattle.keyed_table.proofs.Lookups.{put_none, distinct_push}
 use Rattle.chunk_tables.specs.Links.{symbol_at}
 use Rattle.chunk_tables.specs.Model.{Chunk}
-use Rattle.chunk_faults.specs.Limits.{symbol_count}
+use Rattle.chunk_tables.specs.Limits.{symbol_count}
 use Rattle.chunk_faults.proofs.Facts.{is_none}
 use Rattle.session_rules.specs.Session.{same_symbol, name_of}
-use Rattle.symbol_lists.specs.Laws.{NamesSymbols}
-use Rattle.symbol_lists.proofs.Counts.{at_most_symbols}
+use Rattle.given_names.specs.Laws.{NamesSymbols}
+use Rattle.given_names.proofs.Counts.{at_most_symbols}
 use Rattle.given_names.specs.Held.{given_of, entries_of, given_in, room_for, OfChunk, naming, NoPlace}
 use Rattle.given_names.specs.declared.GivenNames.{GivenNames}
 

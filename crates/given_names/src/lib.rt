@@ -2,8 +2,9 @@
 #![tactic(auto)]
 
 ghost use Rattle.keyed_table.specs.Model.{Distinct};
+ghost use Rattle.given_names.specs.Laws.{FitsTheSymbols};
 
-use keyed_table::slot::{Entry, Slot};
+use keyed_table::slot::Entry;
 use keyed_table::table::Table;
 use keys::refs::SymbolRef;
 use names::name::Name;
@@ -13,12 +14,14 @@ pub mod methods;
 // A symbol with the name that it was given.
 pub type NamedSymbol = Entry<SymbolRef, Name>;
 
-// The memory of one name.
-pub type NameSlot = Slot<SymbolRef, Name>;
-
 #[derive(Drop)]
 pub struct GivenNames {
     names: Table<SymbolRef, Name>,
     // No symbol has two names.
     ghost distinct: { Distinct names.entries },
 }
+
+// Stands for how large a table of symbols can be: it has no more entries than its chunk has symbols.
+pub fn laws<V>()
+    ensures { FitsTheSymbols V }
+{}

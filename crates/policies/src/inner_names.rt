@@ -3,16 +3,13 @@ ghost use Rattle.chunk_tables.specs.View.{chunk_of};
 ghost use Rattle.policies.specs.Sets.{HoldsInnerNames};
 
 use chunk_tables::chunk::Chunk;
-use keyed_table::slot::Slot;
 use keyed_table::table::Table;
 use names::name::Name;
 use names::refusal::Refusal;
+use session_memory::memory::InnerNameSlot;
 
 mod filling;
 pub mod set;
-
-/// The memory of one name.
-pub type InnerNameSlot = Slot<Name, ()>;
 
 /// The names that are bound below the top level of the chunk in its output: in the scopes of functions and blocks, and in
 /// the root of each wrapped module, which is printed as the body of a function. A reference that the bundler prints can

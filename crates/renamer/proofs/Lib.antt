@@ -1,4 +1,3 @@
 mod Endings
-mod Openings
 mod ShortNames
 mod Staying

@@ -5,10 +5,10 @@ use Rattle.keys.specs.declared.refs.SymbolRef.{SymbolRef}
 use Rattle.keyed_table.specs.Model.{Distinct}
 use Rattle.keyed_table.specs.declared.slot.Entry.{Entry}
 use Rattle.chunk_tables.specs.Model.{Module, Chunk}
-use Rattle.chunk_faults.specs.Limits.{symbol_count}
-use Rattle.symbol_lists.specs.Laws.{NamesSymbols}
-use Rattle.symbol_lists.proofs.Bounded.{at_most}
-use Rattle.symbol_lists.proofs.Numbered.{in_modules, symbol_in, number_in, number_below, number_tells}
+use Rattle.chunk_tables.specs.Limits.{symbol_count}
+use Rattle.given_names.specs.Laws.{NamesSymbols}
+use Rattle.given_names.proofs.Bounded.{at_most}
+use Rattle.given_names.proofs.Numbered.{in_modules, symbol_in, number_in, number_below, number_tells}
 
 same_ref : (q r : SymbolRef) → (q.owner ≡ r.owner) × (q.symbol ≡ r.symbol) → q ≡ r
 same_ref q r e = λ i. record { owner = e.0 i; symbol = e.1 i }

@@ -1,19 +1,13 @@
--- A chunk that passed its checks, and which symbols of it can be named at the top level. Assumes nothing.
+-- Which symbols of a chunk can be named at the top level. Assumes nothing.
 use Rattle.std.specs.Prelude.{ℕ, cond, Ok, Err, Result, ◌==◌}
 use Rattle.names.specs.Refusals.{number_of}
 use Rattle.names.specs.Spelt.{spelt}
 use Rattle.names.specs.declared.name.Name as names
 use Rattle.names.specs.declared.refusal.Refusal.{Refusal}
 use Rattle.keys.specs.declared.refs.SymbolRef.{SymbolRef}
-use Rattle.chunk_faults.specs.Sound.{Sound}
-use Rattle.chunk_faults.specs.declared.sizes.MemorySizes.{MemorySizes}
 use Rattle.chunk_tables.specs.Links.{symbol_at, canonical}
 use Rattle.chunk_tables.specs.Lists.{maybe}
 use Rattle.chunk_tables.specs.Model.{Name, Chunk}
-
--- the tables are those of a granted chunk, whatever memory it was granted with
-abbrev pub SoundTables : Chunk → Type 0
-SoundTables c = (z : MemorySizes) × Sound c z
 
 -- the canonical symbol of one, with its own name; refused with 8 where there is no such symbol, and with 9 where the
 -- canonical one does not stand in a root
