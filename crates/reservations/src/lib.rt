@@ -1,7 +1,7 @@
 // The names that no symbol of a chunk is given: they are put on record before any name is sought.
 #![tactic(auto)]
 
-ghost use Rattle.reservations.specs.Laws.{ReservesTheNames, RefusedForCause, BasesRefusedWhereFull, ReservedAreOnRecord};
+ghost use Rattle.reservations.specs.Laws.{ReservesTheNames, RefusedForCause, BasesRefusedWhereFull, SoundRefusedWhereFull, ReservedAreOnRecord};
 
 pub mod reserving;
 mod texts;
@@ -11,5 +11,6 @@ pub fn laws()
     ensures granted { ReservesTheNames }
     ensures refused { RefusedForCause }
     ensures bases { BasesRefusedWhereFull }
+    ensures sound { SoundRefusedWhereFull }
     ensures reserved { ReservedAreOnRecord }
 {}
