@@ -1,3 +1,5 @@
 mod Endings
+mod Openings
 mod ShortNames
 mod Staying
+mod Others

@@ -4,7 +4,7 @@ ghost use Rattle.given_names.specs.Held.{given_in};
 
 use crate::renamer::Renamer;
 
-pub mod ending;
+pub mod state;
 
 /// A session whose top-level names are all given. It is a type of its own, without the calls that name: a root that were
 /// named now could be captured in a module that is repaired already.

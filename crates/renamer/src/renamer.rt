@@ -20,6 +20,7 @@ use keys::refs::ChunkIdx;
 use names::name::Name;
 use policies::chunk_policies::ChunkPolicies;
 
+pub mod ending;
 pub mod helpers;
 pub mod naming;
 pub mod opening;

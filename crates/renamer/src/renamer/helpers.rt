@@ -27,7 +27,7 @@ impl Renamer<'_> {
         ensures rules { drawn_as result self.new ≡ helper_at (chunk_in self.old) (session_of self.old) (helpers_of self.old) place }
         ensures stays { Stays self.old self.new }
     {
-        let Some(other) = self.chunk.chunk().other_chunks.get(place) else {
+        let Some(other) = self.chunk.chunk().other_at(place) else {
             return Err(Refusal::OutOfRange);
         };
         let already = self.require_names.find(&other.index);
