@@ -7,7 +7,7 @@ use Rattle.conflict_resolver.specs.Rows.{row_of, record_in}
 use Rattle.conflict_resolver.specs.declared.resolver.NameRecord.{NameRecord}
 use Rattle.conflict_resolver.specs.declared.resolver.ConflictResolver.{ConflictResolver}
 
--- the entries of the memory that are used, in the order in which they came
+-- the entries of the memory that are used, oldest first
 abbrev pub entries_of : ConflictResolver → List (Entry Name ℕ)
 entries_of r = r.used.entries
 
@@ -15,7 +15,7 @@ entries_of r = r.used.entries
 abbrev pub rows : ConflictResolver → List NameRecord
 rows r = map row_of (entries_of r)
 
--- the records, in the order in which they were made
+-- the records, oldest first
 abbrev pub held : ConflictResolver → List Record
 held r = map record_in (entries_of r)
 

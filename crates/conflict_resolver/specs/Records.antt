@@ -1,4 +1,4 @@
--- Name records: a list of names, each with its counter, in the order in which they were made. Assumes nothing.
+-- Name records: a list of names, oldest first, each with its counter. Assumes nothing.
 use Rattle.std.specs.Prelude.{◌≡◌, ℕ, ◌+◌, Bool, cond, List, [], ◌∷◌, ◌++◌, length, Some, None, Option, nat_lt}
 use Rattle.std.specs.Str.{bytes_eq}
 

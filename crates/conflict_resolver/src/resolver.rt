@@ -23,6 +23,8 @@ pub struct NameRecord {
 /// The memory of one record.
 pub type RecordSlot = Slot<Name, u16>;
 
+/// The records of all names that are taken, reserved or found. It works in memory that is handed over and given back, so
+/// that its room is settled before the first name and a search never runs out of it half way.
 #[derive(Drop)]
 pub struct ConflictResolver {
     used: Table<Name, u16>,

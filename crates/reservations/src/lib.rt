@@ -6,7 +6,8 @@ ghost use Rattle.reservations.specs.Laws.{ReservesTheNames, RefusedForCause, Bas
 pub mod reserving;
 mod texts;
 
-// Stands for what reserving names one after another leaves on record, and why it is refused.
+/// Stands for what reserving names one after another leaves on record, and why it is refused: of a sound chunk only because
+/// more names are reserved than may be on record.
 pub fn laws()
     ensures granted { ReservesTheNames }
     ensures refused { RefusedForCause }

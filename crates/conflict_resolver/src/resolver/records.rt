@@ -31,8 +31,8 @@ fn by_name(records: &mut [NameRecord])
 // Each change says beside the records that the room stays: it is a fact about two states, which no type can hold. A free
 // record is asked for only where one is taken, since a full memory is a memory too.
 impl ConflictResolver {
-    // With nothing on record, over the slots, each of which is emptied. At most so many names may be on record, and no more
-    // than there are slots.
+    /// With nothing on record, over the slots, each of which is emptied, whatever an earlier use left in it. As many names
+    /// may be on record as `most` says, and no more than there are slots.
     pub fn new(slots: Vec<RecordSlot>, most: usize) -> ConflictResolver
         ensures empty { held result ≡ [] }
         ensures room { room result ≡ min most (vec_len slots) }
@@ -44,14 +44,14 @@ impl ConflictResolver {
         ConflictResolver { used, most }
     }
 
-    // How many names are on record.
+    /// How many names are on record.
     pub fn len(&self) -> usize
         ensures { result ≡ length (held self.now) }
     {
         self.used.len()
     }
 
-    // The i-th record, in the order in which they were made.
+    /// The i-th record, oldest first. Records stay in their places, so a caller can read on from where it stopped.
     pub fn record_at(&self, i: usize) -> Option<NameRecord>
         ensures row { result ≡ slice_get (rows self.now) i }
         ensures recorded { option_map record_of result ≡ slice_get (held self.now) i }
@@ -70,6 +70,7 @@ impl ConflictResolver {
         self.used.find(name)
     }
 
+    /// Whether a name is on record, and so no search can answer it any more.
     pub fn contains(&self, name: &Name) -> bool
         ensures { result ≡ is_some (counter_of (held self.now) (spelt name.now)) }
     {
@@ -116,7 +117,8 @@ impl ConflictResolver {
         self.len() < self.most
     }
 
-    // Puts a name on record with 0, unless it is on record.
+    /// Keeps searches from answering the name: puts it on record with counter 0, unless it is there. A name that is there
+    /// keeps its counter, since a search may have raised it, and is granted even where no record is free.
     pub fn reserve(&mut self, name: &Name) -> Result<(), Refusal>
         ensures rules { settled result (held self.new) ≡ reserved (room self.old) (held self.old) (spelt name.now) }
         ensures room { room self.new ≡ room self.old }
@@ -135,7 +137,7 @@ impl ConflictResolver {
         Ok(())
     }
 
-    // Copies the records to the front of `out`, in the order in which they were made.
+    // Copies the records to the front of `out`, oldest first.
     fn copy_out(&self, out: &mut [NameRecord])
         requires { length (rows self.now) ≤ length out.old }
         ensures front { take (length (rows self.now)) out.new ≡ rows self.now }
@@ -161,7 +163,7 @@ impl ConflictResolver {
         Ok(n)
     }
 
-    // The memory, as it is.
+    /// Gives the memory back as it is. It is not emptied: the next use does that.
     pub fn into_slots(self) -> Vec<RecordSlot>
         ensures { result.items ≡ self.used.memory }
     {

@@ -18,7 +18,7 @@ use names::refusal::Refusal;
 // A search that would take more probes is too long.
 const MOST_PROBES: u16 = 4096;
 
-// The name that a search found, and how many numbered forms it looked at.
+/// The name that a search found, and how many numbered forms it looked at: what the search cost, which its bound is about.
 #[derive(Clone, Copy)]
 pub struct Resolved {
     pub name: Name,
@@ -90,7 +90,9 @@ impl ConflictResolver {
         Err(Refusal::SearchTooLong)
     }
 
-    // A name for `base` that is not on record and not vetoed: the base itself, or a numbered form of it.
+    /// Finds a name for `base` that is not on record and not vetoed, and puts it on record: the base itself, as the source
+    /// has it, or else a numbered form. The counter of the base says where to go on, so that the tenth `now` does not try
+    /// nine forms that are taken. Without a free record it is refused at once: there would be nowhere to put its answer.
     pub fn resolve<P: Policy>(&mut self, base: &Name, policy: &P) -> Result<Resolved, Refusal>
         ensures follows_the_rules { answered result (held self.new) ≡ searched (P.vetoes policy.now) (spelt base.now) (room self.old) (held self.old) }
         ensures grants_a_new_unvetoed_name { Sound (P.vetoes policy.now) (spelt base.now) (held self.old) (answered result (held self.new)) }
