@@ -1,130 +1,127 @@
 // The symbols of external modules.
-ghost use Rattle.std.specs.Prelude.{◌≡◌, [], map, length};
-ghost use Rattle.std.specs.List.{find};
-ghost use Rattle.chunk_tables.specs.Lists.{maybe};
+ghost use Rattle.std.specs.Prelude.{◌≡◌, flat_map};
 ghost use Rattle.chunk_tables.specs.View.{chunk_of};
-ghost use Rattle.deconflict_chunk_symbols.specs.Performing.{joined, at_row};
-ghost use Rattle.deconflict_chunk_symbols.specs.Run.{named, external_list, external_call, is_symbol, used_call, used_of, used_rows, symbols_of};
+ghost use Rattle.renamer.specs.State.{chunk_in};
+ghost use Rattle.deconflict_chunk_symbols.specs.Performing.{Performs};
+ghost use Rattle.deconflict_chunk_symbols.specs.Run.{is_esm, namespace_call, namespaces_of, all_namespaces, namespace_calls, is_used, symbols_of, used_call, used_of, used_calls};
 
-use crate::calls::Naming;
-use crate::rows::{Namings, Rows, name_each};
+use crate::calls::name;
 use chunk_tables::chunk::Chunk;
+use chunk_tables::format::Format;
+use chunk_tables::kind::RootBindingKind;
 use chunk_tables::parts::ModuleKind;
 use keys::refs::SymbolRef;
 use names::refusal::Refusal;
 use renamer::renamer::Renamer;
 
-// The lists of external modules.
-#[derive(Clone, Copy)]
-pub enum Externals {
-    Direct,
-    EntryLevel,
-    Indirect,
+fn is_esm(chunk: &Chunk) -> bool
+    ensures { result ≡ is_esm (chunk_of chunk.now) }
+{
+    chunk.format == u8::from(Format::Esm)
 }
 
-impl Externals {
-    fn of<'a>(&self, chunk: &'a Chunk) -> &'a [u32]
-        ensures { result.now ≡ external_list self.now (chunk_of chunk.now) }
-    {
-        match self {
-            Externals::Direct => chunk.direct_externals.as_slice(),
-            Externals::EntryLevel => chunk.entry_externals.as_slice(),
-            Externals::Indirect => chunk.indirect_externals.as_slice(),
+// The namespace of a module, if it is external.
+fn name_namespace(renamer: &mut Renamer<'_>, external: u32) -> Result<(), Refusal>
+    ensures { Performs renamer.old renamer.new result (namespace_call (chunk_in renamer.old) external) }
+{
+    let Some(module) = renamer.chunk().module_at(external as usize) else {
+        return Ok(());
+    };
+    match module.kind {
+        ModuleKind::Normal => Ok(()),
+        ModuleKind::External { namespace } => {
+            let symbol = SymbolRef {
+                owner: external,
+                symbol: namespace,
+            };
+            name(renamer, symbol, RootBindingKind::Authored)
         }
     }
 }
 
-// The namespace of a module, if it is external.
-fn namespace_naming(chunk: &Chunk, external: u32) -> Option<Naming>
-    ensures { named result ≡ external_call (chunk_of chunk.now) external }
+fn name_namespaces(renamer: &mut Renamer<'_>, externals: &[u32]) -> Result<(), Refusal>
+    ensures { Performs renamer.old renamer.new result (namespaces_of (chunk_in renamer.old) externals.now) }
 {
-    match chunk.module_at(external as usize)?.kind {
-        ModuleKind::Normal => None,
-        ModuleKind::External { namespace } => Some(Naming::authored(SymbolRef {
-            owner: external,
-            symbol: namespace,
-        })),
+    for external in externals {
+        name_namespace(renamer, *external)?;
+    }
+    Ok(())
+}
+
+fn name_all_namespaces(renamer: &mut Renamer<'_>) -> Result<(), Refusal>
+    ensures { Performs renamer.old renamer.new result (all_namespaces (chunk_in renamer.old)) }
+{
+    let chunk = renamer.chunk();
+    name_namespaces(renamer, &chunk.direct_externals)?;
+    name_namespaces(renamer, &chunk.entry_externals)?;
+    name_namespaces(renamer, &chunk.indirect_externals)
+}
+
+// Outside esm an external module is one value, its namespace.
+pub fn name_external_namespaces(renamer: &mut Renamer<'_>) -> Result<(), Refusal>
+    ensures { Performs renamer.old renamer.new result (namespace_calls (chunk_in renamer.old)) }
+{
+    if is_esm(renamer.chunk()) {
+        Ok(())
+    } else {
+        name_all_namespaces(renamer)
     }
 }
 
-// The namespaces of the external modules of a list.
-impl Namings for Externals {
-    ghost asks = { λ s c. map (external_call c) (external_list s c) };
-
-    fn count(&self, chunk: &Chunk) -> usize {
-        self.of(chunk).len()
-    }
-
-    fn naming(&self, chunk: &Chunk, row: usize) -> Option<Naming> {
-        namespace_naming(chunk, *self.of(chunk).get(row)?)
-    }
+fn is_used(chunk: &Chunk, symbol: SymbolRef) -> bool
+    ensures { result ≡ is_used (chunk_of chunk.now) symbol }
+{
+    chunk.used_external_symbols.iter().any(|used| *used == symbol)
 }
 
 // How many symbols a module has.
-fn symbol_count(chunk: &Chunk, owner: u32) -> usize
+fn symbol_count(chunk: &Chunk, owner: u32) -> u32
     ensures { result ≡ symbols_of (chunk_of chunk.now) owner }
 {
     match chunk.module_at(owner as usize) {
-        Some(of) => of.symbols.len(),
+        Some(module) => module.symbols.len() as u32,
         None => 0,
     }
 }
 
-// The symbol with these numbers, if it is used.
-fn used_symbol(chunk: &Chunk, owner: u32, number: usize) -> Option<SymbolRef>
-    ensures { result ≡ find (is_symbol owner number) (chunk_of chunk.now).used }
+fn name_used(renamer: &mut Renamer<'_>, owner: u32, symbol: u32) -> Result<(), Refusal>
+    ensures { Performs renamer.old renamer.new result (used_call (chunk_in renamer.old) owner symbol) }
 {
-    chunk.used_external_symbols.iter().copied().find(|used| used.owner == owner
-        && used.symbol as usize == number)
+    let symbol = SymbolRef { owner, symbol };
+    if is_used(renamer.chunk(), symbol) {
+        name(renamer, symbol, RootBindingKind::Authored)
+    } else {
+        Ok(())
+    }
 }
 
-fn used_naming(chunk: &Chunk, external: u32, number: usize) -> Option<Naming>
-    ensures { named result ≡ used_call (chunk_of chunk.now) external number }
+// The used symbols of a module, by ascending number.
+fn name_used_of(renamer: &mut Renamer<'_>, owner: u32) -> Result<(), Refusal>
+    ensures { Performs renamer.old renamer.new result (used_of (chunk_in renamer.old) owner) }
 {
-    let used = used_symbol(chunk, external, number)?;
-    Some(Naming::authored(used))
+    for symbol in 0..symbol_count(renamer.chunk(), owner) {
+        name_used(renamer, owner, symbol)?;
+    }
+    Ok(())
 }
 
-// The symbols of an external module that are used, by ascending number.
-#[derive(Clone, Copy)]
-pub struct UsedOf {
-    pub external: u32,
+fn name_used_of_each(renamer: &mut Renamer<'_>, externals: &[u32]) -> Result<(), Refusal>
+    ensures { Performs renamer.old renamer.new result (flat_map (used_of (chunk_in renamer.old)) externals.now) }
+{
+    for external in externals {
+        name_used_of(renamer, *external)?;
+    }
+    Ok(())
 }
 
-impl Namings for UsedOf {
-    ghost asks = { λ s c. used_rows s.external c };
-
-    #[tactic(auto, using(crate::proofs::Numbered::all_numbered))]
-    fn count(&self, chunk: &Chunk) -> usize {
-        symbol_count(chunk, self.external)
-    }
-
-    #[tactic(auto, using(crate::proofs::Numbered::numbered_row, crate::proofs::Numbered::no_row))]
-    fn naming(&self, chunk: &Chunk, row: usize) -> Option<Naming> {
-        if row < symbol_count(chunk, self.external) {
-            used_naming(chunk, self.external, row)
-        } else {
-            None
-        }
-    }
-}
-
-// The used symbols of the direct externals.
-#[derive(Clone, Copy)]
-pub struct UsedSymbols;
-
-impl Rows for UsedSymbols {
-    ghost calls = { λ s c. map (used_of c) c.direct };
-
-    fn count(&self, chunk: &Chunk) -> usize {
-        chunk.direct_externals.len()
-    }
-
-    fn perform(&self, renamer: &mut Renamer, row: usize) -> Result<(), Refusal> {
-        let external = renamer.chunk().direct_externals.get(row).copied();
-        match external {
-            Some(external) => name_each(renamer, UsedOf { external }),
-            None => Ok(()),
-        }
+// Under esm what is imported from an external module is a symbol of that module.
+pub fn name_used_external_symbols(renamer: &mut Renamer<'_>) -> Result<(), Refusal>
+    ensures { Performs renamer.old renamer.new result (used_calls (chunk_in renamer.old)) }
+{
+    let chunk = renamer.chunk();
+    if is_esm(chunk) {
+        name_used_of_each(renamer, &chunk.direct_externals)
+    } else {
+        Ok(())
     }
 }

@@ -1,10 +1,8 @@
-// The naming calls of a whole chunk, in the order of a run.
+// The naming calls of a whole chunk, in the order of the Rust's function of this name.
 #![tactic(auto)]
 
 mod calls;
 mod externals;
-pub mod helpers;
-mod listed;
-mod members;
-mod rows;
+mod modules;
+mod other_chunks;
 pub mod run;

@@ -3,3 +3,4 @@ mod Openings
 mod ShortNames
 mod Staying
 mod Others
+mod Drawings

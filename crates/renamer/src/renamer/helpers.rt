@@ -1,11 +1,12 @@
 // The helpers through which other chunks are read.
-ghost use Rattle.std.specs.Prelude.{◌≡◌, ◌<◌, length, MatchResult};
+ghost use Rattle.std.specs.Prelude.{◌≡◌, ◌<◌, true, [], ◌∷◌, ◌++◌, length, None, MatchResult};
 ghost use Rattle.std.specs.Option.{option_map};
 ghost use Rattle.names.specs.Refusals.{number_of};
 ghost use Rattle.names.specs.Spelt.{spelt};
 ghost use Rattle.keys.specs.Refs.{chunk_under};
 ghost use Rattle.keyed_table.specs.Listed.{key_of, Listed};
 ghost use Rattle.renamer.specs.Drawing.{drawn_as};
+ghost use Rattle.renamer.specs.Helpers.{is_other};
 ghost use Rattle.renamer.specs.State.{chunk_in, session_of, helper_entries, helpers_of, Stays};
 ghost use Rattle.session_rules.specs.Helpers.{helper_of, helper_at};
 
@@ -21,6 +22,17 @@ use names::refusal::Refusal;
 pub type HelperName = Entry<ChunkIdx, Name>;
 
 impl Renamer<'_> {
+    // Notes the helper of another chunk that has none. There is a place for each.
+    fn note_helper(&mut self, chunk: ChunkIdx, name: Name)
+        requires other { is_other (chunk_in self.old) chunk.0 ≡ true }
+        requires none { helper_of (helpers_of self.old) chunk.0 ≡ None }
+        ensures helpers { helpers_of self.new ≡ helpers_of self.old ++ record { chunk = chunk.0; name = spelt name } ∷ [] }
+        ensures session { session_of self.new ≡ session_of self.old }
+        ensures stays { Stays self.old self.new }
+    {
+        let _ = self.require_names.insert(chunk, name);
+    }
+
     /// A name for the helper of the other chunk at a place of the chunk's list, after the hint of that chunk. A chunk has
     /// one helper: it is drawn once, and told again after that. A place that is none is out of range.
     pub fn create_require_name(&mut self, place: usize) -> Result<TopLevelName, Refusal>
@@ -36,7 +48,7 @@ impl Renamer<'_> {
         };
         let hint = require_hint(other.name.as_slice())?;
         let resolved = self.create_conflictless_name(hint.as_bytes())?;
-        self.require_names.insert(other.index, resolved.name)?;
+        self.note_helper(other.index, resolved.name);
         Ok(TopLevelName::Given(resolved))
     }
 

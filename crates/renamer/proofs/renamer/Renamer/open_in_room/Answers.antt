@@ -1,4 +1,6 @@
-use Rattle.std.proofs.Common.{rules, refl, [], sym, ap, subst, ◌∙◌}
+use Rattle.std.proofs.Common.{rules, arith, ◌≡◌, false, refl, [], sym, ap, subst, ◌∙◌}
+use Rattle.std.specs.List.{All}
+use Rattle.std.proofs.lemmas.List.{with_items_is}
 use Rattle.chunk_tables.specs.View.{chunk_of}
 use Rattle.conflict_resolver.specs.Held.{held}
 use Rattle.reservations.proofs.Ends.{reserved_are_on_record}
@@ -23,7 +25,7 @@ returns-in-Ok c = record {
   reserved = c.in-Ok.ensures.records;
   nothing_given = c.new.ensures.empty;
   no_helper = c.new-in-Ok.ensures.entries;
-  unmarked = c.clear_marks.ensures;
+  unmarked = subst (λ ms. All (λ mark. mark ≡ false) ms) (sym (with_items_is c.args.memory.marks c.clear_marks.new.marks (omega arith))) c.clear_marks.ensures;
   records = c.in-Ok.ensures.slots;
   names = c.new.ensures.room;
   inner = c.open_policies.ensures.memory;

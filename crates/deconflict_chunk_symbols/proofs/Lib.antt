@@ -1,4 +1,0 @@
-mod Chained
-mod Turns
-mod Numbered
-mod Drawings
