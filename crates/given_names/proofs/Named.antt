@@ -17,7 +17,7 @@ use Rattle.keyed_table.specs.declared.slot.Entry.{Entry}
 use Rattle.keyed_table.proofs.Lookups.{put_none, distinct_push}
 use Rattle.chunk_tables.specs.Links.{symbol_at}
 use Rattle.chunk_tables.specs.Model.{Chunk}
-use Rattle.chunk_faults.specs.Limits.{symbol_count}
+use Rattle.chunk_tables.specs.Limits.{symbol_count}
 use Rattle.chunk_faults.proofs.Facts.{is_none}
 use Rattle.session_rules.specs.Session.{same_symbol, name_of}
 use Rattle.symbol_lists.specs.Laws.{NamesSymbols}

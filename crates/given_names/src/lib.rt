@@ -3,7 +3,7 @@
 
 ghost use Rattle.keyed_table.specs.Model.{Distinct};
 
-use keyed_table::slot::{Entry, Slot};
+use keyed_table::slot::Entry;
 use keyed_table::table::Table;
 use keys::refs::SymbolRef;
 use names::name::Name;
@@ -12,9 +12,6 @@ pub mod methods;
 
 // A symbol with the name that it was given.
 pub type NamedSymbol = Entry<SymbolRef, Name>;
-
-// The memory of one name.
-pub type NameSlot = Slot<SymbolRef, Name>;
 
 #[derive(Drop)]
 pub struct GivenNames {

@@ -9,15 +9,16 @@ ghost use Rattle.keyed_table.specs.Links.{AllBlank};
 ghost use Rattle.keyed_table.specs.Listed.{Listed};
 ghost use Rattle.chunk_tables.specs.Model.{Chunk};
 ghost use Rattle.chunk_tables.specs.Links.{symbol_at};
-ghost use Rattle.chunk_faults.specs.Limits.{symbol_count};
+ghost use Rattle.chunk_tables.specs.Limits.{symbol_count};
 ghost use Rattle.session_rules.specs.Session.{name_of as name_given};
 ghost use Rattle.given_names.specs.Held.{entries_of, given_in, room_for, OfChunk, NoPlace, naming};
 
-use crate::{GivenNames, NameSlot, NamedSymbol};
+use crate::{GivenNames, NamedSymbol};
 use keyed_table::table::Table;
 use keys::refs::SymbolRef;
 use names::name::Name;
 use names::refusal::Refusal;
+use session_memory::memory::NameSlot;
 
 impl GivenNames {
     // No symbol has a name yet; each slot is emptied.

@@ -4,9 +4,8 @@ use Rattle.std.specs.List.{flat_map, list_any, slice_get}
 use Rattle.std.proofs.lemmas.List.{get_or-set_other}
 use Rattle.chunk_tables.specs.Lists.{maybe}
 use Rattle.chunk_tables.specs.Model.{Symbol, Module, Chunk}
-use Rattle.chunk_faults.specs.Limits.{in_all, symbol_count}
+use Rattle.chunk_tables.specs.Limits.{in_all, symbol_count}
 use Rattle.chunk_faults.specs.Sound.{Sound}
-use Rattle.chunk_faults.specs.declared.sizes.MemorySizes.{MemorySizes}
 use Rattle.policies.specs.InnerNames.{symbol_names, module_names, member_names, inner_names}
 use Rattle.policies.specs.Sets.{Unnoted}
 use Rattle.policies.proofs.Parts.{found_symbol}
@@ -57,7 +56,7 @@ all_symbols : (Ms : List Module) → in_all (λ w. w) (map symbols_of Ms) ≡ in
 all_symbols [] = refl
 all_symbols (M ∷ Ms) = ap (λ n. length M.symbols + n) (all_symbols Ms)
 
-module _ (c : Chunk) (z : MemorySizes) (sound : Sound c z) where
+module _ (c : Chunk) (sound : Sound c) where
   few : length (inner_names c) ≤ symbol_count c
   few = omega (arith, few_in_members c c.members, different_places c.members (map symbols_of c.modules) sound.members.different, all_symbols c.modules)
 

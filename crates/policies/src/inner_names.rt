@@ -1,14 +1,11 @@
 // The set of the inner names of a chunk, in memory that the caller makes, hands over and gets back.
-use keyed_table::slot::Slot;
 use keyed_table::table::Table;
 use names::name::Name;
 use names::refusal::Refusal;
+use session_memory::memory::InnerNameSlot;
 
 mod filling;
 pub mod set;
-
-// The memory of one name.
-pub type InnerNameSlot = Slot<Name, ()>;
 
 // A table with nothing under its names: which names it has is all that counts.
 #[derive(Drop)]

@@ -5,7 +5,7 @@ use Rattle.keys.specs.declared.refs.SymbolRef.{SymbolRef}
 use Rattle.keyed_table.specs.Model.{Distinct}
 use Rattle.keyed_table.specs.declared.slot.Entry.{Entry}
 use Rattle.chunk_tables.specs.Model.{Module, Chunk}
-use Rattle.chunk_faults.specs.Limits.{symbol_count}
+use Rattle.chunk_tables.specs.Limits.{symbol_count}
 use Rattle.symbol_lists.specs.Laws.{NamesSymbols}
 use Rattle.symbol_lists.proofs.Bounded.{at_most}
 use Rattle.symbol_lists.proofs.Numbered.{in_modules, symbol_in, number_in, number_below, number_tells}

@@ -4,7 +4,7 @@ use Rattle.std.specs.List.{slice_get}
 use Rattle.std.proofs.lemmas.Bool.{false≢true}
 use Rattle.chunk_tables.specs.Lists.{maybe}
 use Rattle.chunk_tables.specs.Model.{Symbol, Module}
-use Rattle.chunk_faults.specs.Limits.{in_all}
+use Rattle.chunk_tables.specs.Limits.{in_all}
 
 -- how many symbols all modules have together
 abbrev pub in_modules : List Module → ℕ

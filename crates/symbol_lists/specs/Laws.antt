@@ -6,7 +6,7 @@ use Rattle.keyed_table.specs.Model.{Distinct}
 use Rattle.keyed_table.specs.declared.slot.Entry.{Entry}
 use Rattle.chunk_tables.specs.Links.{symbol_at}
 use Rattle.chunk_tables.specs.Model.{Chunk}
-use Rattle.chunk_faults.specs.Limits.{symbol_count}
+use Rattle.chunk_tables.specs.Limits.{symbol_count}
 
 -- each key is a symbol of the chunk
 abbrev pub NamesSymbols : {V : Type 0} → Chunk → List (Entry SymbolRef V) → Type 0

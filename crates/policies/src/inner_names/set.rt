@@ -4,16 +4,16 @@ ghost use Rattle.names.specs.Refusals.{number_of};
 ghost use Rattle.names.specs.Spelt.{spelt};
 ghost use Rattle.keyed_table.specs.Links.{AllBlank};
 ghost use Rattle.chunk_tables.specs.View.{chunk_of};
-ghost use Rattle.chunk_faults.specs.Limits.{symbol_count};
+ghost use Rattle.chunk_tables.specs.Limits.{symbol_count};
 ghost use Rattle.chunk_faults.specs.Sound.{Sound};
-ghost use Rattle.chunk_faults.specs.declared.sizes.MemorySizes.{MemorySizes};
 ghost use Rattle.policies.specs.Held.{has_name, slot_count, Holds, Refused};
 
 use super::filling::note_chunk;
-use super::{InnerBindingNames, InnerNameSlot, InnerNamesRefused};
+use super::{InnerBindingNames, InnerNamesRefused};
 use chunk_tables::chunk::Chunk;
 use keyed_table::table::Table;
 use names::name::Name;
+use session_memory::memory::InnerNameSlot;
 
 impl InnerBindingNames {
     // The set of the inner names of the chunk, over the slots, each of which is emptied. Where the names do not fit, the
@@ -24,7 +24,7 @@ impl InnerBindingNames {
     ) -> Result<InnerBindingNames, InnerNamesRefused>
         ensures names { MatchResult result (Holds (chunk_of chunk.now)) (λ r. Refused (chunk_of chunk.now) (vec_len slots) (number_of r.refusal)) }
         ensures memory { MatchResult result (λ s. slot_count s ≡ vec_len slots) (λ r. (vec_len r.slots ≡ vec_len slots) × AllBlank r.slots.items) }
-        ensures room_for_a_sound_chunk { (z : MemorySizes) → Sound (chunk_of chunk.now) z → symbol_count (chunk_of chunk.now) ≤ vec_len slots → is_ok result ≡ true }
+        ensures room_for_a_sound_chunk { Sound (chunk_of chunk.now) → symbol_count (chunk_of chunk.now) ≤ vec_len slots → is_ok result ≡ true }
     {
         let mut table = Table::new(slots);
         match note_chunk(&mut table, chunk) {

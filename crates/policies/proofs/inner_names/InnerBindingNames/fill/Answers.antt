@@ -7,4 +7,4 @@ use Rattle.policies.proofs.inner_names.InnerBindingNames.fill.Goals as goal
 pub returns-in-Err-clause-room_for_a_sound_chunk : goal.returns-in-Err-clause-room_for_a_sound_chunk
 returns-in-Err-clause-room_for_a_sound_chunk c =
     let told = rw (c.new-table.ensures.room, c.new-table.ensures.entries) at c.in-Err.ensures.names in
-    λ z sound l. absurd (none_unnoted (chunk_of c.args.chunk.now) z sound (vec_len c.args.slots) (number_of c.in-Err.refusal) l told)
+    λ sound l. absurd (none_unnoted (chunk_of c.args.chunk.now) sound (vec_len c.args.slots) (number_of c.in-Err.refusal) l told)
