@@ -82,6 +82,9 @@ fn check_run_lists(chunk: &Chunk) -> Result<(), Refusal>
     check_others(chunk)
 }
 
+/// Refuses the first entry that names no row or a bad name, or stands out of order: the globals, the chunk's modules, the
+/// lists of each module, and then the lists in the order in which a chunk is named. The heap is for indexes that are let go
+/// again.
 #[tactic(auto, using(chunk_faults::proofs::Loops::over_append))]
 pub fn check_lists(heap: Global, chunk: &Chunk) -> Result<(), Refusal>
     ensures { told result ≡ first_found least (list_rows (chunk_of chunk.now)) }
