@@ -31,11 +31,11 @@ symbol_entry c q = (2, missing c q) ∷ []
 abbrev pub entry_tests : Chunk → EntrySymbol → List Test
 entry_tests c e = symbol_entry c e.symbol
 
--- module M runs before the module that stands before entry k of the chunk's modules
+-- module M runs before the predecessor of entry k among the chunk's modules
 abbrev pub falls : Chunk → ℕ → Module → Bool
 falls c k M = maybe (row_before c.members k) false (λ p. maybe (slice_get c.modules p) false (λ P. ltb M.order P.order))
 
--- the module of entry k is external, stands earlier in the list, or runs before the one that stands before it
+-- entry k does not belong there: its module is external, was joined already, or runs before its predecessor
 abbrev pub member_amiss : Chunk → ℕ → ℕ → Bool
 member_amiss c k m =
     maybe (slice_get c.modules m) false (λ M. not (is_normal M.kind) || (list_any (nat_eq m) (take k c.members) || falls c k M))
@@ -47,19 +47,19 @@ abbrev pub unresolved_tests : Module → Unresolved → List Test
 unresolved_tests M u =
     (2, not (is_scope M u.scope)) ∷ (6, is_some (nearest M u.scope u.name)) ∷ (7, not (is_base u.name)) ∷ []
 
--- a statement is one record, with all that it declares
+-- a statement is faulty as a whole where one of the symbols that it declares is missing
 abbrev pub statement_tests : Chunk → Statement → List Test
 statement_tests c s = (2, list_any (missing c) s.declared) ∷ []
 
--- the number of the other chunk is not above the one before it
+-- the predecessor of the other chunk has its number, or a greater one
 abbrev pub not_above : Chunk → ℕ → OtherChunk → Bool
 not_above c k o = maybe (row_before c.others k) false (λ p. not (nat_lt p.number o.number))
 
--- another chunk is one record, with all that is imported from it; its helper is to be called by a hint
+-- something imported from another chunk is missing, its number is out of order, or its helper's hint makes no name
 abbrev pub other_tests : Chunk → ℕ → OtherChunk → List Test
 other_tests c k o = (2, list_any (missing c) o.imports) ∷ (3, not_above c k o) ∷ (7, not (is_base (hint o.name))) ∷ []
 
--- the lists of a module
+-- the lists that each module has
 abbrev pub own_lists : Chunk → Module → List (List (List Test))
 own_lists c M =
     map (own_entry M) M.shims ∷ map (own_entry M) M.imports ∷ map (unresolved_tests M) M.unresolved ∷ map (statement_tests c) M.statements ∷ []
@@ -67,14 +67,14 @@ own_lists c M =
 abbrev pub own_list_rows : Chunk → Module → List (List Test)
 own_list_rows c M = flat_map (λ rows. rows) (own_lists c M)
 
--- the lists that the run goes through, in its order
+-- the lists of what is named for the chunk as a whole: externals, the entry's and further symbols, other chunks
 abbrev pub run_lists : Chunk → List (List (List Test))
 run_lists c =
     map (module_entry c) c.direct ∷ map (module_entry c) c.entry_level ∷ map (module_entry c) c.indirect
     ∷ map (entry_tests c) c.entry ∷ map (symbol_entry c) c.used ∷ map (symbol_entry c) c.synthetic
     ∷ each_row (other_tests c) c.others ∷ []
 
--- all lists: the globals, the chunk's modules, then module by module, then as the run goes
+-- every list; those of the modules are told between the chunk's own
 abbrev pub all_lists : Chunk → List (List (List Test))
 all_lists c =
     map name_tests c.globals ∷ each_row (member_tests c) c.members ∷ flat_map (own_list_rows c) c.modules

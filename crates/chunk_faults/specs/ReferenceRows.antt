@@ -13,14 +13,15 @@ use Rattle.chunk_faults.specs.Tests.{Test}
 abbrev pub reference_strays : Chunk → Module → Reference → Bool
 reference_strays c M r = not (is_scope M r.scope) || (not (is_symbol M r.target) || dangles c r.resolved)
 
--- the target, which is y, is a facade, or not the nearest binding of its name
+-- a lookup of the name of the target, which is y, does not find the target from here
 abbrev pub misses_target : Module → Reference → Symbol → Bool
 misses_target M r y = not y.bound || not (maybe (nearest M r.scope y.name) false (nat_eq r.target))
 
--- a resolved member of a target that is no named import in the root, or in a wrapped module is printed as itself
+-- a resolved member is taken from a symbol that was not imported by name into the root, or that a wrapper prints as itself
 abbrev pub stray_member : Module → Reference → Symbol → Bool
 stray_member M r y = is_some r.resolved && (not (root_import M r.target) || (M.wrapped && not (elsewhere y)))
 
+-- what the name at the reference means is not what the row says; a missing target is told by another number
 abbrev pub bad_reference : Module → Reference → Bool
 bad_reference M r = maybe (slice_get M.symbols r.target) false (λ y. misses_target M r y || stray_member M r y)
 

@@ -24,7 +24,7 @@ Fit n = (1 ≤ length n) × (length n ≤ 100)
 abbrev pub There : Chunk → SymbolRef → Type 0
 There c q = (y : Symbol) × (symbol_at c q ≡ Some y)
 
--- symbol i stands in the root and is among the named imports
+-- symbol i, which is y, was imported by name into the root
 abbrev pub RootImport : Module → ℕ → Symbol → Type 0
 RootImport M i y = (y.scope ≡ 0) × ((k : ℕ) × (slice_get M.imports k ≡ Some i))
 
@@ -37,9 +37,9 @@ pub record SoundOwn (M : Module) : Type 0 where
 
 -- scope i has the parent p
 pub record SoundScope (M : Module) (i p : ℕ) : Type 0 where
-  -- every parent is smaller than its scope
+  -- each step outward goes to a smaller number
   pub smaller : 0 < i → p < i
-  -- an external module has only a root
+  -- the root of an external module has no scope within it
   pub only_root : is_normal M.kind ≡ false → i ≡ 0
 
 -- symbol i of the module is y
@@ -47,29 +47,29 @@ pub record SoundSymbol (c : Chunk) (M : Module) (i : ℕ) (y : Symbol) : Type 0 
   pub placed : y.scope < length M.parents
   pub link : (q : SymbolRef) → y.link ≡ Some q → There c q
   pub alias : (q : SymbolRef) → y.alias ≡ Some q → There c q
-  -- two bound symbols of one scope differ in name
+  -- a scope binds a name once
   pub apart : (j : ℕ) (x : Symbol) → slice_get M.symbols j ≡ Some x → x.bound ≡ true → y.bound ≡ true → x.scope ≡ y.scope → x.name ≡ y.name → j ≡ i
-  -- a facade stands in a root, and an external module has only facades
+  -- what is not bound belongs to the root, and nothing is bound in an external module
   pub facade : y.bound ≡ false → y.scope ≡ 0
   pub only_facades : is_normal M.kind ≡ false → y.bound ≡ false
-  -- an alias leads to no second alias
+  -- nothing is printed through more than one alias
   pub alias_ends : (q : SymbolRef) → y.alias ≡ Some q → alias_of c (canonical c q) ≡ None
-  -- a bound symbol that is linked or aliased is a root named import
+  -- a binding that is printed as another symbol was imported by name
   pub imported : y.bound ≡ true → elsewhere y ≡ true → RootImport M i y
   pub name : Fit y.name
 
 pub record SoundReference (c : Chunk) (M : Module) (r : Reference) : Type 0 where
   pub scope : r.scope < length M.parents
   pub resolved : (q : SymbolRef) → r.resolved ≡ Some q → There c q
-  -- the target is the nearest binding of its name
+  -- a lookup of the target's name from the reference finds the target
   pub target : Symbol
   pub there : slice_get M.symbols r.target ≡ Some target
   pub bound : target.bound ≡ true
   pub nearest : nearest M r.scope target.name ≡ Some r.target
-  -- a resolved member reference has a root named import for its target, in a wrapped module a linked or aliased one
+  -- what a resolved member is taken from was imported by name, and is not printed as itself where a wrapper would hold it
   pub member : (q : SymbolRef) → r.resolved ≡ Some q → RootImport M r.target target × (M.wrapped ≡ true → elsewhere target ≡ true)
 
--- an unresolved name is bound nowhere outward
+-- a lookup of an unresolved name finds nothing
 pub record SoundUnresolved (M : Module) (u : Unresolved) : Type 0 where
   pub scope : u.scope < length M.parents
   pub unbound : nearest M u.scope u.name ≡ None
@@ -97,7 +97,7 @@ pub record SoundLimits (c : Chunk) : Type 0 where
 pub record SoundMembers (c : Chunk) : Type 0 where
   pub normal : (k m : ℕ) → slice_get c.members k ≡ Some m → (M : Module) × (slice_get c.modules m ≡ Some M) × (is_normal M.kind ≡ true)
   pub different : (j k m : ℕ) → slice_get c.members j ≡ Some m → slice_get c.members k ≡ Some m → j ≡ k
-  -- none runs before the one that stands before it
+  -- each runs after its predecessor, or has the same place in the order
   pub not_falling : (k m n : ℕ) (M N : Module) → slice_get c.members k ≡ Some m → slice_get c.members (suc k) ≡ Some n → slice_get c.modules m ≡ Some M → slice_get c.modules n ≡ Some N → M.order ≤ N.order
 
 pub record SoundOther (c : Chunk) (o : OtherChunk) : Type 0 where
@@ -114,7 +114,7 @@ pub record SoundLists (c : Chunk) : Type 0 where
   pub used : (k : ℕ) (q : SymbolRef) → slice_get c.used k ≡ Some q → There c q
   pub synthetic : (k : ℕ) (q : SymbolRef) → slice_get c.synthetic k ≡ Some q → There c q
   pub others : (k : ℕ) (o : OtherChunk) → slice_get c.others k ≡ Some o → SoundOther c o
-  -- the numbers of other chunks rise
+  -- each of the other chunks has a greater number than its predecessor
   pub rising : (k : ℕ) (o p : OtherChunk) → slice_get c.others k ≡ Some o → slice_get c.others (suc k) ≡ Some p → o.number < p.number
 
 pub record Sound (c : Chunk) : Type 0 where

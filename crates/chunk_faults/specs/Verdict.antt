@@ -1,4 +1,4 @@
--- The tables in the order in which they are checked, and what the check comes to. Assumes nothing.
+-- What the check of a chunk comes to, table by table. Assumes nothing.
 use Rattle.std.specs.Prelude.{ℕ, Bool, List, [], ◌∷◌, map, Option}
 use Rattle.std.specs.List.{flat_map}
 use Rattle.chunk_tables.specs.Lists.{first_found}
@@ -11,7 +11,7 @@ use Rattle.chunk_faults.specs.ReferenceRows.{reference_tests}
 use Rattle.chunk_faults.specs.ListRows.{list_rows}
 use Rattle.chunk_faults.specs.Tests.{Test, least, each_row}
 
--- the records of a module's scopes, symbols and references, with their tests
+-- the tests of each scope of a module, and so of its symbols and its references
 abbrev pub scope_rows : Module → List (List Test)
 scope_rows M = each_row (scope_tests M) M.parents
 
@@ -21,8 +21,8 @@ symbol_rows c M = each_row (symbol_tests c M) M.symbols
 abbrev pub reference_rows : Chunk → Module → List (List Test)
 reference_rows c M = map (reference_tests c M) M.references
 
--- each table's records with their tests: limits, format, modules, scopes, symbols, references, lists; `short` tells whether
--- the memory is too small for the chunk
+-- the tests of every record of every table; a table is looked at after those that stand before it here. `short` tells
+-- whether the memory is too small for the chunk
 abbrev pub table_rows : Chunk → Bool → List (List (List Test))
 table_rows c short =
     (limit_tests c short ∷ [])
@@ -34,6 +34,6 @@ table_rows c short =
     ∷ list_rows c
     ∷ []
 
--- the smallest number of the first faulty record of the first table that has one
+-- the number that is told, if there is one: tables come before records, and records before numbers
 abbrev pub verdict : Chunk → Bool → Option ℕ
 verdict c short = first_found (first_found least) (table_rows c short)

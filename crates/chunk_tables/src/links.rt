@@ -3,9 +3,9 @@ ghost use Rattle.std.specs.Prelude.{◌≡◌};
 ghost use Rattle.std.specs.Option.{option_map};
 ghost use Rattle.std.specs.List.{slice_get};
 ghost use Rattle.chunk_tables.specs.Links.{symbol_at, link_of, alias_of, follow, canonical, end_after, printed};
-ghost use Rattle.chunk_tables.specs.View.{chunk_of, module_of, symbol_of};
+ghost use Rattle.chunk_tables.specs.View.{chunk_of, module_of, other_of, symbol_of};
 
-use crate::chunk::{Chunk, Module};
+use crate::chunk::{Chunk, Module, OtherChunk};
 use crate::limits::MOST_SYMBOLS;
 use crate::parts::Symbol;
 use keys::refs::SymbolRef;
@@ -23,6 +23,14 @@ impl Chunk {
         ensures { option_map (λ m. module_of m.now) result ≡ slice_get (chunk_of self.now).modules number }
     {
         self.modules.get(number)
+    }
+
+    /// The other chunk at a place of the list. Other chunks are named by their places, since their numbers need not be
+    /// close to one another.
+    pub fn other_at(&self, place: usize) -> Option<&OtherChunk>
+        ensures { option_map (λ o. other_of o.now) result ≡ slice_get (chunk_of self.now).others place }
+    {
+        self.other_chunks.get(place)
     }
 
     pub fn symbol_at(&self, symbol: SymbolRef) -> Option<&Symbol>

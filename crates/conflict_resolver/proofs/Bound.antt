@@ -3,7 +3,7 @@
 use Rattle.std.proofs.Common.{◌≡◌, ℕ, zero, suc, ◌+◌, ◌-◌, ◌*◌, ◌<◌, ◌≤◌, Bool, true, false, cond, not, ◌&&◌, ◌||◌, ltb, ◌⊎◌, List, length, is_some, Some, None, Option, sym, refl, ap, ◌∙◌, inl, inr, mul-le-mul_right, arith}
 use Rattle.std.proofs.lemmas.Bool.{cases_Bool, or_parts}
 use Rattle.names.specs.Forms.{form}
-use Rattle.conflict_resolver.specs.Records.{Record, counter_of, raised}
+use Rattle.conflict_resolver.specs.Records.{Record, counter_of, raised, has_free}
 use Rattle.conflict_resolver.specs.Rules.{Outcome, granted, refused, State, next, done, opening, run, searched}
 use Rattle.names.specs.Bases.{is_base}
 use Rattle.conflict_resolver.specs.Laws.{count, is_recorded, is_vetoed, most_probes, Bounded}
@@ -219,7 +219,7 @@ module _ (vetoes : List ℕ → Bool → Bool) (b : List ℕ) (es : List Record)
 
   pub bounded : (slots : ℕ) → Bounded vetoes b es (searched vetoes b slots es)
   unfolding searched
-  bounded slots = on (is_base b) (ltb (length es) slots)
+  bounded slots = on (is_base b) (has_free slots es)
     where
       on : (named room : Bool) → Bounded vetoes b es (elim named [ true ↦ elim room [ true ↦ run vetoes b 4096 (opening vetoes b es) | false ↦ refused es 10 ] | false ↦ refused es 7 ])
       on true true = begun (looks vetoes es b true 0 0)

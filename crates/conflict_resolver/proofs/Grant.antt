@@ -2,7 +2,7 @@
 use Rattle.std.proofs.Common.{◌≡◌, ℕ, zero, suc, ◌+◌, ◌<◌, ◌≤◌, Bool, true, false, eqb, ltb, List, length, Some, None, refl, inl, inr, arith}
 use Rattle.std.proofs.lemmas.Bool.{ne_eqb}
 use Rattle.names.specs.Forms.{form}
-use Rattle.conflict_resolver.specs.Records.{Record, counter_of, raised, recording}
+use Rattle.conflict_resolver.specs.Records.{Record, counter_of, raised, recording, has_free}
 use Rattle.conflict_resolver.specs.Rules.{refused, State, next, opening, run, searched}
 use Rattle.names.specs.Bases.{is_base}
 use Rattle.conflict_resolver.specs.Laws.{Candidate, Granted, Kept, Refused, Sound}
@@ -61,7 +61,7 @@ module _ (vetoes : List ℕ → Bool → Bool) (b : List ℕ) (es : List Record)
 
   pub sound : (slots : ℕ) → Sound vetoes b es (searched vetoes b slots es)
   unfolding searched
-  sound slots = on (is_base b) (ltb (length es) slots)
+  sound slots = on (is_base b) (has_free slots es)
     where
       on : (named room : Bool) → Sound vetoes b es (elim named [ true ↦ elim room [ true ↦ run vetoes b 4096 (opening vetoes b es) | false ↦ refused es 10 ] | false ↦ refused es 7 ])
       on true true = begun (looks vetoes es b true 0 0)

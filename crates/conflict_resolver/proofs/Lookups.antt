@@ -1,9 +1,9 @@
 -- What the records say of a name after a counter was raised or a name recorded. Assumes nothing.
-use Rattle.std.proofs.Common.{◌≡◌, ℕ, ◌+◌, ◌<◌, ◌≤◌, true, false, ◌⊎◌, List, [], ◌∷◌, length, is_some, Some, None, Option, sym, refl, ap, ◌∙◌, inl, inr, arith}
+use Rattle.std.proofs.Common.{◌≡◌, ℕ, ◌+◌, ◌<◌, ◌≤◌, true, false, ltb, ◌⊎◌, List, [], ◌∷◌, length, is_some, Some, None, Option, sym, refl, ap, ◌∙◌, inl, inr, arith}
 use Rattle.std.specs.Str.{bytes_eq}
 use Rattle.std.proofs.lemmas.Bool.{cases_Bool, both_ways}
 use Rattle.std.proofs.lemmas.Slice.Eq.{bytes_eq-Decides}
-use Rattle.conflict_resolver.specs.Records.{Record, counter_of, raised, recording, Apart}
+use Rattle.conflict_resolver.specs.Records.{Record, counter_of, raised, recording, has_free, Apart}
 use Rattle.conflict_resolver.specs.Laws.{Grown, Limited}
 
 pub same_true : (c d : List ℕ) → c ≡ d → bytes_eq c d ≡ true
@@ -20,44 +20,48 @@ same_false c d n = on (cases_Bool (bytes_eq c d))
 pub raised_same : (es : List Record) (c : List ℕ) (n : ℕ) → counter_of es c ≡ Some n → counter_of (raised es c) c ≡ Some (n + 1)
 unfolding counter_of raised
 raised_same [] c n h = cc
-raised_same (e ∷ es) c n h = on (cases_Bool (bytes_eq e.0 c)) (raised_same es c n)
+raised_same (e ∷ es) c n h = on (cases_Bool (bytes_eq e.name c)) (raised_same es c n)
   where
-    on : (bytes_eq e.0 c ≡ true) ⊎ (bytes_eq e.0 c ≡ false) → (counter_of es c ≡ Some n → counter_of (raised es c) c ≡ Some (n + 1)) → counter_of (raised (e ∷ es) c) c ≡ Some (n + 1)
+    on : (bytes_eq e.name c ≡ true) ⊎ (bytes_eq e.name c ≡ false) → (counter_of es c ≡ Some n → counter_of (raised es c) c ≡ Some (n + 1)) → counter_of (raised (e ∷ es) c) c ≡ Some (n + 1)
     on (inl t) ih =
-        let i : Some e.1 ≡ Some n = rw t at h in
-        let j : e.1 ≡ n = cc in
+        let i : Some e.counter ≡ Some n = rw t at h in
+        let j : e.counter ≡ n = cc in
         simp (t, j)
     on (inr f) ih = let i : counter_of es c ≡ Some n = rw f at h in simp (f, ih i)
 
 pub raised_other : (es : List Record) (c d : List ℕ) → (d ≡ c → ⊥) → counter_of (raised es c) d ≡ counter_of es d
 unfolding counter_of raised
 raised_other [] c d ne = refl
-raised_other (e ∷ es) c d ne = on (cases_Bool (bytes_eq e.0 c)) (raised_other es c d ne)
+raised_other (e ∷ es) c d ne = on (cases_Bool (bytes_eq e.name c)) (raised_other es c d ne)
   where
-    on : (bytes_eq e.0 c ≡ true) ⊎ (bytes_eq e.0 c ≡ false) → counter_of (raised es c) d ≡ counter_of es d → counter_of (raised (e ∷ es) c) d ≡ counter_of (e ∷ es) d
+    on : (bytes_eq e.name c ≡ true) ⊎ (bytes_eq e.name c ≡ false) → counter_of (raised es c) d ≡ counter_of es d → counter_of (raised (e ∷ es) c) d ≡ counter_of (e ∷ es) d
     on (inl t) ih =
-        let same : e.0 ≡ c = (bytes_eq-Decides e.0 c).0 t in
-        let f : bytes_eq e.0 d ≡ false = same_false e.0 d (λ g. ne (sym g ∙ same)) in
+        let same : e.name ≡ c = (bytes_eq-Decides e.name c).0 t in
+        let f : bytes_eq e.name d ≡ false = same_false e.name d (λ g. ne (sym g ∙ same)) in
         simp (t, f)
     on (inr f) ih = simp (f, ih)
 
 pub length_raised : (es : List Record) (c : List ℕ) → length (raised es c) ≡ length es
 unfolding raised
 length_raised [] c = refl
-length_raised (e ∷ es) c = on (cases_Bool (bytes_eq e.0 c)) (length_raised es c)
+length_raised (e ∷ es) c = on (cases_Bool (bytes_eq e.name c)) (length_raised es c)
   where
-    on : (bytes_eq e.0 c ≡ true) ⊎ (bytes_eq e.0 c ≡ false) → length (raised es c) ≡ length es → length (raised (e ∷ es) c) ≡ length (e ∷ es)
+    on : (bytes_eq e.name c ≡ true) ⊎ (bytes_eq e.name c ≡ false) → length (raised es c) ≡ length es → length (raised (e ∷ es) c) ≡ length (e ∷ es)
     on (inl t) ih = simp t
     on (inr f) ih = simp f (omega arith)
+
+-- so a free record stays free
+pub free_raised : (es fs : List Record) (c : List ℕ) (m n : ℕ) → fs ≡ raised es c → n ≡ m → has_free m es ≡ true → has_free n fs ≡ true
+free_raised es fs c m n e r h = ap (λ k. ltb k n) (ap length e ∙ length_raised es c) ∙ ap (ltb (length es)) r ∙ h
 
 -- recording c with 0
 pub recorded_same : (es : List Record) (c : List ℕ) → counter_of es c ≡ None → counter_of (recording es c) c ≡ Some 0
 unfolding counter_of
 recorded_same [] c h = simp (same_true c c refl)
-recorded_same (e ∷ es) c h = on (cases_Bool (bytes_eq e.0 c)) (recorded_same es c)
+recorded_same (e ∷ es) c h = on (cases_Bool (bytes_eq e.name c)) (recorded_same es c)
   where
-    on : (bytes_eq e.0 c ≡ true) ⊎ (bytes_eq e.0 c ≡ false) → (counter_of es c ≡ None → counter_of (recording es c) c ≡ Some 0) → counter_of (recording (e ∷ es) c) c ≡ Some 0
-    on (inl t) ih = let i : Some e.1 ≡ None = rw t at h in cc
+    on : (bytes_eq e.name c ≡ true) ⊎ (bytes_eq e.name c ≡ false) → (counter_of es c ≡ None → counter_of (recording es c) c ≡ Some 0) → counter_of (recording (e ∷ es) c) c ≡ Some 0
+    on (inl t) ih = let i : Some e.counter ≡ None = rw t at h in cc
     on (inr f) ih = let i : counter_of es c ≡ None = rw f at h in simp (f, ih i)
 
 pub recorded_other : (es : List Record) (c d : List ℕ) → (d ≡ c → ⊥) → counter_of (recording es c) d ≡ counter_of es d
@@ -126,19 +130,19 @@ limited_recorded es c h low d m e = on (cases_Bool (bytes_eq d c))
 pub apart_raised : (es : List Record) (c : List ℕ) → Apart es → Apart (raised es c)
 unfolding Apart raised
 apart_raised [] c a = a
-apart_raised (e ∷ es) c a = on (cases_Bool (bytes_eq e.0 c)) (apart_raised es c a.1)
+apart_raised (e ∷ es) c a = on (cases_Bool (bytes_eq e.name c)) (apart_raised es c a.1)
   where
-    on : (bytes_eq e.0 c ≡ true) ⊎ (bytes_eq e.0 c ≡ false) → Apart (raised es c) → Apart (raised (e ∷ es) c)
+    on : (bytes_eq e.name c ≡ true) ⊎ (bytes_eq e.name c ≡ false) → Apart (raised es c) → Apart (raised (e ∷ es) c)
     on (inl t) ih = simp t a
-    on (inr f) ih = simp f (raised_other es c e.0 (λ g. both_ways (bytes_eq e.0 c) f (same_true e.0 c g)) ∙ a.0, ih)
+    on (inr f) ih = simp f (raised_other es c e.name (λ g. both_ways (bytes_eq e.name c) f (same_true e.name c g)) ∙ a.0, ih)
 
 pub apart_recorded : (es : List Record) (c : List ℕ) → counter_of es c ≡ None → Apart es → Apart (recording es c)
 unfolding Apart counter_of
 apart_recorded [] c h a = (refl, tt)
-apart_recorded (e ∷ es) c h a = on (cases_Bool (bytes_eq e.0 c)) (λ i. apart_recorded es c i a.1)
+apart_recorded (e ∷ es) c h a = on (cases_Bool (bytes_eq e.name c)) (λ i. apart_recorded es c i a.1)
   where
-    on : (bytes_eq e.0 c ≡ true) ⊎ (bytes_eq e.0 c ≡ false) → (counter_of es c ≡ None → Apart (recording es c)) → Apart (recording (e ∷ es) c)
-    on (inl t) ih = let i : Some e.1 ≡ None = rw t at h in let z : ◌≡◌ {A = ℕ} 0 1 = cc in absurd (omega arith)
+    on : (bytes_eq e.name c ≡ true) ⊎ (bytes_eq e.name c ≡ false) → (counter_of es c ≡ None → Apart (recording es c)) → Apart (recording (e ∷ es) c)
+    on (inl t) ih = let i : Some e.counter ≡ None = rw t at h in let z : ◌≡◌ {A = ℕ} 0 1 = cc in absurd (omega arith)
     on (inr f) ih =
         let i : counter_of es c ≡ None = rw f at h in
-        (recorded_other es c e.0 (λ g. both_ways (bytes_eq e.0 c) f (same_true e.0 c g)) ∙ a.0, ih i)
+        (recorded_other es c e.name (λ g. both_ways (bytes_eq e.name c) f (same_true e.name c g)) ∙ a.0, ih i)

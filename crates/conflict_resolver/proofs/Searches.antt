@@ -1,8 +1,8 @@
 -- The steps of a search, as a loop takes them. Assumes nothing.
-use Rattle.std.proofs.Common.{◌≡◌, ℕ, suc, ◌+◌, ◌-◌, ◌<◌, ◌≤◌, Bool, true, false, ◌==◌, List, length, sym, ap, ◌∙◌, arith}
-use Rattle.std.proofs.lemmas.Bool.{lt-ltb, le-ltb, ne_eqb}
+use Rattle.std.proofs.Common.{◌≡◌, ℕ, suc, ◌+◌, ◌-◌, ◌≤◌, Bool, true, false, ◌==◌, List, sym, ap, ◌∙◌, arith}
+use Rattle.std.proofs.lemmas.Bool.{ne_eqb}
 use Rattle.names.specs.Forms.{form}
-use Rattle.conflict_resolver.specs.Records.{Record, counter_of}
+use Rattle.conflict_resolver.specs.Records.{Record, counter_of, has_free}
 use Rattle.conflict_resolver.specs.Rules.{Outcome, refused, State, next, done, follow, sight, probed, opening, run, searched}
 use Rattle.names.specs.Bases.{is_base}
 use Rattle.conflict_resolver.specs.Laws.{Sound, Bounded}
@@ -30,16 +30,16 @@ module _ (vetoes : List ℕ → Bool → Bool) (b : List ℕ) where
   unfolding run
   runs_out es k q p l = let e : 4097 - q ≡ 0 = omega arith in rw e
 
-  pub begins : (slots : ℕ) (es : List Record) (st : State) → is_base b ≡ true → length es < slots → st ≡ opening vetoes b es → run vetoes b 4096 st ≡ searched vetoes b slots es
+  pub begins : (slots : ℕ) (es : List Record) (st : State) → is_base b ≡ true → has_free slots es ≡ true → st ≡ opening vetoes b es → run vetoes b 4096 st ≡ searched vetoes b slots es
   unfolding searched
-  begins slots es st h l e = rw (h, lt-ltb (length es) slots l, searched) (ap (run vetoes b 4096) e)
+  begins slots es st h l e = rw (h, l, searched) (ap (run vetoes b 4096) e)
 
-  pub ends_at_once : (slots : ℕ) (es : List Record) (o : Outcome) → is_base b ≡ true → length es < slots → done o ≡ opening vetoes b es → o ≡ searched vetoes b slots es
+  pub ends_at_once : (slots : ℕ) (es : List Record) (o : Outcome) → is_base b ≡ true → has_free slots es ≡ true → done o ≡ opening vetoes b es → o ≡ searched vetoes b slots es
   ends_at_once slots es o h l e = sym (run_done vetoes b 4096 o) ∙ begins slots es (done o) h l e
 
-  pub no_room : (slots : ℕ) (es : List Record) → is_base b ≡ true → slots ≤ length es → refused es 10 ≡ searched vetoes b slots es
+  pub no_room : (slots : ℕ) (es : List Record) → is_base b ≡ true → has_free slots es ≡ false → refused es 10 ≡ searched vetoes b slots es
   unfolding searched
-  no_room slots es h l = rw (h, le-ltb (length es) slots l, searched)
+  no_room slots es h l = rw (h, l, searched)
 
   pub no_base : (slots : ℕ) (es : List Record) → is_base b ≡ false → refused es 7 ≡ searched vetoes b slots es
   unfolding searched

@@ -1,10 +1,10 @@
 -- What the calls of a resolver answer, in the words of the rules. Assumes nothing.
-use Rattle.std.specs.Prelude.{ℕ, ◌<◌, ◌≤◌, List, length, Some, None, Ok, Err, Option, Result}
+use Rattle.std.specs.Prelude.{ℕ, ◌≡◌, ◌≤◌, true, List, Some, None, Ok, Err, Option, Result}
 use Rattle.names.specs.Refusals.{number_of}
 use Rattle.names.specs.Spelt.{spelt}
 use Rattle.names.specs.declared.refusal.Refusal.{Refusal}
 use Rattle.conflict_resolver.specs.Held.{held, room}
-use Rattle.conflict_resolver.specs.Records.{Record}
+use Rattle.conflict_resolver.specs.Records.{Record, has_free}
 use Rattle.conflict_resolver.specs.Rules.{Outcome, State, Reservation, next, done, granted, refused, made, declined}
 use Rattle.conflict_resolver.specs.declared.resolver.ConflictResolver.{ConflictResolver}
 use Rattle.conflict_resolver.specs.declared.resolver.search.Resolved.{Resolved}
@@ -17,7 +17,7 @@ looked (Err e) fs c p = done (refused fs (number_of e))
 
 -- where the search goes on, the number is that of a form, and a record is still free
 abbrev pub Going : Result (Option ℕ) Refusal → ConflictResolver → Type 0
-Going (Ok (Some k)) t = (1 ≤ k) × (k ≤ 9999) × (length (held t) < room t)
+Going (Ok (Some k)) t = (1 ≤ k) × (k ≤ 9999) × (has_free (room t) (held t) ≡ true)
 Going (Ok None) t = Unit {0}
 Going (Err e) t = Unit {0}
 

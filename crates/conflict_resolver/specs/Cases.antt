@@ -32,7 +32,7 @@ a$9999 = codes "a$9999"
 
 -- a record
 abbrev on : List ℕ → ℕ → Record
-on c n = (c, n)
+on c n = record { name = c; counter = n }
 
 -- the search for `a` in a memory of nine records
 abbrev search_a : (List ℕ → Bool → Bool) → List Record → Outcome

@@ -1,21 +1,23 @@
 -- The records that a resolver holds. Assumes nothing.
-use Rattle.std.specs.Prelude.{◌≡◌, ℕ, List, map, length, take, drop}
-use Rattle.std.specs.List.Sorted.{IsPermutation}
+use Rattle.std.specs.Prelude.{ℕ, List, map, length}
 use Rattle.names.specs.declared.name.Name.{Name}
-use Rattle.keys.specs.Names.{name_under}
-use Rattle.keys.specs.Order.{Rising}
 use Rattle.keyed_table.specs.declared.slot.Entry.{Entry}
 use Rattle.conflict_resolver.specs.Records.{Record}
-use Rattle.conflict_resolver.specs.Rows.{record_of}
+use Rattle.conflict_resolver.specs.Rows.{row_of, record_in}
+use Rattle.conflict_resolver.specs.declared.resolver.NameRecord.{NameRecord}
 use Rattle.conflict_resolver.specs.declared.resolver.ConflictResolver.{ConflictResolver}
 
--- the rows of the memory that are used, in the order in which they were filled
-abbrev pub rows : ConflictResolver → List (Entry Name ℕ)
-rows r = r.used.entries
+-- the entries of the memory that are used, oldest first
+abbrev pub entries_of : ConflictResolver → List (Entry Name ℕ)
+entries_of r = r.used.entries
 
--- the records, in the order in which they were made
+-- the same, as a caller sees them
+abbrev pub rows : ConflictResolver → List NameRecord
+rows r = map row_of (entries_of r)
+
+-- the records, oldest first
 abbrev pub held : ConflictResolver → List Record
-held r = map record_of (rows r)
+held r = map record_in (entries_of r)
 
 -- how many names may be on record
 abbrev pub room : ConflictResolver → ℕ
@@ -24,10 +26,3 @@ room r = r.most
 -- how many records the memory has, used and free
 abbrev pub slots : ConflictResolver → ℕ
 slots r = length r.used.memory
-
--- the rows es by ascending names, in the first n places of a list that is otherwise as it was
-pub record Ascending (es was is : List (Entry Name ℕ)) (n : ℕ) : Type 0 where
-  pub count : n ≡ length es
-  pub shuffled : IsPermutation es (take n is)
-  pub rising : Rising name_under (map (λ e. e.key) (take n is))
-  pub rest : drop n is ≡ drop n was

@@ -1,9 +1,9 @@
 -- The search for a free name, one clause a rule. `vetoes c bare` tells whether the policy vetoes the candidate c.
 -- Assumes nothing.
-use Rattle.std.specs.Prelude.{ℕ, zero, suc, ◌+◌, Bool, true, false, List, length, Some, None, Option, nat_lt}
+use Rattle.std.specs.Prelude.{ℕ, zero, suc, ◌+◌, Bool, true, false, List, Some, None, Option, nat_lt}
 use Rattle.names.specs.Bases.{is_base}
 use Rattle.names.specs.Forms.{form}
-use Rattle.conflict_resolver.specs.Records.{Record, counter_of, raised, recording}
+use Rattle.conflict_resolver.specs.Records.{Record, counter_of, raised, recording, has_free}
 
 -- what a look at a candidate finds: it is on record with a counter, or unrecorded and vetoed, or free
 pub data Sight : Type 0 where
@@ -59,7 +59,7 @@ module _ (vetoes : List ℕ → Bool → Bool) (b : List ℕ) where
   -- the whole search, where the memory has `slots` records in all
   unfoldable pub searched : ℕ → List Record → Outcome
   searched slots es = elim (is_base b) [
-    | true ↦ elim (nat_lt (length es) slots) [ true ↦ run 4096 (opening es) | false ↦ refused es 10 ]
+    | true ↦ elim (has_free slots es) [ true ↦ run 4096 (opening es) | false ↦ refused es 10 ]
     | false ↦ refused es 7
   ]
 
@@ -73,7 +73,7 @@ unfoldable pub reserved : ℕ → List Record → List ℕ → Reservation
 reserved slots es c = elim (is_base c) [
   | true ↦ elim (counter_of es c) [
     | Some n ↦ made es
-    | None ↦ elim (nat_lt (length es) slots) [ true ↦ made (recording es c) | false ↦ declined es 10 ]
+    | None ↦ elim (has_free slots es) [ true ↦ made (recording es c) | false ↦ declined es 10 ]
   ]
   | false ↦ declined es 7
 ]

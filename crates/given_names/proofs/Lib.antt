@@ -1,1 +1,4 @@
+pub mod Bounded
+pub mod Numbered
+pub mod Counts
 pub mod Named

@@ -14,14 +14,14 @@ use Rattle.keys.specs.declared.refs.SymbolRef.{SymbolRef}
 use Rattle.keyed_table.specs.Contents.{takes}
 use Rattle.keyed_table.specs.Model.{lookup, put, Absent, Distinct}
 use Rattle.keyed_table.specs.declared.slot.Entry.{Entry}
-use Rattle.keyed_table.proofs.Lookups.{put_none, distinct_push}
+use Rattle.keyed_table.proofs.Lookups.{absent, put_none, distinct_push}
 use Rattle.chunk_tables.specs.Links.{symbol_at}
 use Rattle.chunk_tables.specs.Model.{Chunk}
 use Rattle.chunk_tables.specs.Limits.{symbol_count}
 use Rattle.chunk_faults.proofs.Facts.{is_none}
 use Rattle.session_rules.specs.Session.{same_symbol, name_of}
-use Rattle.symbol_lists.specs.Laws.{NamesSymbols}
-use Rattle.symbol_lists.proofs.Counts.{at_most_symbols}
+use Rattle.given_names.specs.Laws.{NamesSymbols}
+use Rattle.given_names.proofs.Counts.{at_most_symbols}
 use Rattle.given_names.specs.Held.{given_of, entries_of, given_in, room_for, OfChunk, naming, NoPlace}
 use Rattle.given_names.specs.declared.GivenNames.{GivenNames}
 
@@ -41,16 +41,6 @@ found_name (e ∷ es) q = on (same_symbol e.key q) (found_name es q)
 some_mapped : {X Y : Type 0} (f : X → Y) (o : Option X) → is_some (option_map f o) ≡ is_some o
 some_mapped f (Some x) = refl
 some_mapped f None = refl
-
-passed : {X : Type 0} (b : Bool) (x : X) (o : Option X) → is_some (cond b (Some x) o) ≡ false → (b ≡ false) × (is_some o ≡ false)
-passed true x o none = absurd (false≢true (sym none))
-passed false x o none = (refl, none)
-
--- a symbol under which there is nothing stands at no place
-absent : (es : List (Entry SymbolRef Name)) (q : SymbolRef) → is_some (lookup same_symbol es q) ≡ false → Absent same_symbol es q
-absent [] q none j d l = absurd (omega arith)
-absent (e ∷ es) q none zero d l = (passed (same_symbol e.key q) e.value (lookup same_symbol es q) none).0
-absent (e ∷ es) q none (suc j) d l = absent es q (passed (same_symbol e.key q) e.value (lookup same_symbol es q) none).1 j d (omega arith)
 
 -- with equal tables, the given names are equal
 same_given : (g h : GivenNames) → g.names ≡ h.names → g ≡ h
@@ -74,7 +64,7 @@ module _ (g : GivenNames) (q : SymbolRef) (n : Name) (o : Option Name) (found : 
   under_none = sym (some_mapped spelt (lookup same_symbol (entries_of g) q)) ∙ ap is_some (found_name (entries_of g) q) ∙ none
 
   nowhere : Absent same_symbol (entries_of g) q
-  nowhere = absent (entries_of g) q under_none
+  nowhere = absent same_symbol (entries_of g) q (is_none (lookup same_symbol (entries_of g) q) under_none)
 
   behind : put same_symbol (entries_of g) q n ≡ entries_of g ++ record { key = q; value = n } ∷ []
   behind = put_none same_symbol (entries_of g) q n nowhere

@@ -2,6 +2,7 @@
 #![tactic(auto)]
 
 ghost use Rattle.keyed_table.specs.Model.{Distinct};
+ghost use Rattle.given_names.specs.Laws.{FitsTheSymbols};
 
 use keyed_table::slot::Entry;
 use keyed_table::table::Table;
@@ -19,3 +20,8 @@ pub struct GivenNames {
     // No symbol has two names.
     ghost distinct: { Distinct names.entries },
 }
+
+// Stands for how large a table of symbols can be: it has no more entries than its chunk has symbols.
+pub fn laws<V>()
+    ensures { FitsTheSymbols V }
+{}

@@ -6,7 +6,7 @@ ghost use Rattle.names.specs.Refusals.{number_of};
 ghost use Rattle.names.specs.Spelt.{spelt};
 ghost use Rattle.keys.specs.Refs.{symbol_under};
 ghost use Rattle.keyed_table.specs.Links.{AllBlank};
-ghost use Rattle.keyed_table.specs.Listed.{Listed};
+ghost use Rattle.keyed_table.specs.Listed.{key_of, Listed};
 ghost use Rattle.chunk_tables.specs.Model.{Chunk};
 ghost use Rattle.chunk_tables.specs.Links.{symbol_at};
 ghost use Rattle.chunk_tables.specs.Limits.{symbol_count};
@@ -66,7 +66,7 @@ impl GivenNames {
 
     // Writes the symbols with their names to the front of `out`, ascending by the symbols, and answers how many there are.
     pub fn list(&self, out: &mut [NamedSymbol]) -> Result<usize, Refusal>
-        ensures { MatchResult result (Listed symbol_under (entries_of self.now) out.old out.new) (λ e. (number_of e ≡ 15) × (length out.old < length (given_in self.now)) × (out.new ≡ out.old)) }
+        ensures { MatchResult result (Listed key_of symbol_under (entries_of self.now) out.old out.new) (λ e. (number_of e ≡ 15) × (length out.old < length (given_in self.now)) × (out.new ≡ out.old)) }
     {
         self.names.list(out)
     }

@@ -11,7 +11,7 @@ use Rattle.std.proofs.lemmas.Bool.{cases_eq, cases_order, cases_Bool, cond-true,
 use Rattle.std.proofs.lemmas.Bool.Decides.{nat_tests}
 use Rattle.keyed_table.specs.Model.{Distinct}
 use Rattle.keys.specs.Order.{Strict, Rising}
-use Rattle.keyed_table.specs.Listed.{Sorted, Listed}
+use Rattle.keyed_table.specs.Listed.{key_of, Sorted, Listed}
 use Rattle.keyed_table.specs.declared.slot.Entry.{Entry}
 use Rattle.keyed_table.proofs.Held.{front}
 
@@ -29,7 +29,7 @@ source_within a b k n l m h = grind (arith, nat_tests)
 
 module _ {X Y : Type 0} (f : X → Y) where
   -- no value of f at two places
-  abbrev Apart : List X → Type 0
+  abbrev pub Apart : List X → Type 0
   Apart xs = (i j : ℕ) (d : X) → i < length xs → j < length xs → f (get_or xs i d) ≡ f (get_or xs j d) → i ≡ j
 
   get_or_exchanged : (xs : List X) (a b k : ℕ) (d : X) → a < length xs → b < length xs → get_or (swap xs a b) k d ≡ get_or xs (source a b k) d
@@ -62,45 +62,46 @@ module _ {X Y : Type 0} (f : X → Y) where
 
 -- ---- the listing
 
-module _ {K V : Type 0} {under : K → K → Bool} (o : Strict under) (es : List (Entry K V)) (apart : Distinct es) where
-  keys_apart : Apart (λ e. e.key) es
-  keys_apart i j d l m e =
-      ⊎_elim (λ eq. eq)
-      (⊎_elim
-      (λ lt. absurd (apart (record { i = i; j = j; d = d; less = lt; within = m; key = e })))
-      (λ gt. absurd (apart (record { i = j; j = i; d = d; less = gt; within = l; key = sym e }))))
-      (cases_order i j)
+-- no two entries have one key
+pub keys_apart : {K V : Type 0} (es : List (Entry K V)) → Distinct es → Apart key_of es
+keys_apart es apart i j d l m e =
+    ⊎_elim (λ eq. eq)
+    (⊎_elim
+    (λ lt. absurd (apart (record { i = i; j = j; d = d; less = lt; within = m; key = e })))
+    (λ gt. absurd (apart (record { i = j; j = i; d = d; less = gt; within = l; key = sym e }))))
+    (cases_order i j)
 
-  rising : (ys : List (Entry K V)) → IsPermutation es ys → Sorted under ys (length ys) → Rising under (map (λ e. e.key) ys)
+module _ {X K : Type 0} (key : X → K) {under : K → K → Bool} (o : Strict under) (rows : List X) (apart : Apart key rows) where
+  rising : (ys : List X) → IsPermutation rows ys → Sorted key under ys → Rising under (map key ys)
   rising ys shuffled sorted k d l =
-      let n = length-map ys (λ e. e.key) in
+      let n = length-map ys key in
       let y = front ys (omega arith) in
-      let at : (i : ℕ) → i < length ys → get_or (map (λ e. e.key) ys) i d ≡ (get_or ys i y).key = λ i h. get_or-map (λ e. e.key) ys i y d h in
-      let x = (get_or ys k y).key in
-      let z = (get_or ys (k + 1) y).key in
+      let at : (i : ℕ) → i < length ys → get_or (map key ys) i d ≡ key (get_or ys i y) = λ i h. get_or-map key ys i y d h in
+      let x = key (get_or ys k y) in
+      let z = key (get_or ys (k + 1) y) in
       let less : under x z ≡ true =
       ⊎_elim (λ t. t)
       (λ f.
-      let one = apart_shuffled (λ e. e.key) es ys shuffled keys_apart k (k + 1) y (omega arith) (omega arith) (o.total x z f (sorted k y (omega arith))) in
+      let one = apart_shuffled key rows ys shuffled apart k (k + 1) y (omega arith) (omega arith) (o.total x z f (sorted k y (omega arith))) in
       absurd (omega arith))
       (cases_Bool (under x z)) in
-      ap (λ a. under a (get_or (map (λ e. e.key) ys) (k + 1) d)) (at k (omega arith)) ∙ ap (under x) (at (k + 1) (omega arith)) ∙ less
+      ap (λ a. under a (get_or (map key ys) (k + 1) d)) (at k (omega arith)) ∙ ap (under x) (at (k + 1) (omega arith)) ∙ less
 
-  pub listed : (was copied ys : List (Entry K V)) (n : ℕ) → n ≡ length es → take n copied ≡ es → drop n copied ≡ drop n was → IsPermutation (take n copied) ys → Sorted under ys (length ys) → Listed under es was (ys ++ drop n copied) n
+  pub listed : (was copied ys : List X) (n : ℕ) → n ≡ length rows → take n copied ≡ rows → drop n copied ≡ drop n was → IsPermutation (take n copied) ys → Sorted key under ys → Listed key under rows was (ys ++ drop n copied) n
   listed was copied ys n count copies rest shuffled sorted =
       let long : length ys ≡ n = length_permutation (take n copied) ys shuffled ∙ ap length copies ∙ sym count in
       let is = take_at ys (drop n copied) n long in
       let moved = subst (λ t. IsPermutation t ys) copies shuffled in
       record {
         count = count;
-        shuffled = subst (IsPermutation es) (sym is) moved;
-        rising = subst (λ t. Rising under (map (λ e. e.key) t)) (sym is) (rising ys moved sorted);
+        shuffled = subst (IsPermutation rows) (sym is) moved;
+        rising = subst (λ t. Rising under (map key t)) (sym is) (rising ys moved sorted);
         rest = drop_at ys (drop n copied) n long ∙ rest;
       }
 
 -- what a sort by the keys leaves, where the keys compare as they stand
-pub sorted_by : {K V : Type 0} {cmp : K → K → Ordering} {partial : K → K → Option Ordering} {under : K → K → Bool} → IsTotalOrder cmp → Agrees partial cmp → ((x y : K) → partial_lt partial x y ≡ under x y) → (ys : List (Entry K V)) → IsSortedByKey (λ e. e.key) cmp ys → Sorted under ys (length ys)
-sorted_by {cmp = cmp} {partial = partial} order same agrees ys up k d l =
-    let x = (get_or ys k d).key in
-    let y = (get_or ys (k + 1) d).key in
+pub sorted_by : {X K : Type 0} (key : X → K) {cmp : K → K → Ordering} {partial : K → K → Option Ordering} {under : K → K → Bool} → IsTotalOrder cmp → Agrees partial cmp → ((x y : K) → partial_lt partial x y ≡ under x y) → (ys : List X) → IsSortedByKey key cmp ys → Sorted key under ys
+sorted_by key {cmp = cmp} {partial = partial} order same agrees ys up k d l =
+    let x = key (get_or ys k d) in
+    let y = key (get_or ys (k + 1) d) in
     sym (agrees y x) ∙ ap (is_some_and is_lt) (same y x) ∙ up k d (omega arith) (omega arith)

@@ -1,10 +1,10 @@
 -- Look-ups and changes of entries. Assumes nothing.
-use Rattle.std.proofs.Common.{◌≡◌, ℕ, zero, suc, ◌<◌, Bool, true, false, List, [], ◌∷◌, ◌++◌, length, get_or, set, is_some, Some, None, Decides, sym, refl, ap, ◌∙◌, ⊎_elim, arith}
+use Rattle.std.proofs.Common.{◌≡◌, ℕ, zero, suc, ◌<◌, Bool, true, false, List, [], ◌∷◌, ◌++◌, length, get_or, set, is_some, Some, None, Decides, sym, refl, ap, ◌∙◌, ◌⊎◌, inl, inr, ⊎_elim, arith}
 use Rattle.std.specs.Option.{option_map}
 use Rattle.std.specs.List.{slice_get}
 use Rattle.std.proofs.lemmas.Bool.{cases_lt, false≢true, cases_Bool, cond-true, cond-false}
 use Rattle.std.proofs.lemmas.List.{length_push, get_or_push, get_or_append_left}
-use Rattle.std.proofs.lemmas.Option.{slice_get-get_or}
+use Rattle.std.proofs.lemmas.Option.{none-some, slice_get-get_or}
 use Rattle.keyed_table.specs.Model.{lookup, put, Last, Absent, Distinct}
 use Rattle.keyed_table.specs.declared.slot.Entry.{Entry}
 use Rattle.keyed_table.proofs.Held.{front}
@@ -18,6 +18,15 @@ module _ {K V : Type 0} (alike : K → K → Bool) where
   pub lookup_none : (es : List (Entry K V)) (k : K) → Absent alike es k → lookup alike es k ≡ None
   lookup_none [] k no' = refl
   lookup_none (e ∷ es) k no' = cond-false _ _ _ (no' 0 e (omega arith)) ∙ lookup_none es k (λ j d m. no' (suc j) d (omega arith))
+
+  pub absent : (es : List (Entry K V)) (k : K) → lookup alike es k ≡ None → Absent alike es k
+  absent [] k none j d l = absurd (omega arith)
+  absent (e ∷ es) k none j d l = on (cases_Bool (alike e.key k)) (absent es k) j l
+    where
+      on : (alike e.key k ≡ true) ⊎ (alike e.key k ≡ false) → (lookup alike es k ≡ None → Absent alike es k) → (i : ℕ) → i < length (e ∷ es) → alike (get_or (e ∷ es) i d).key k ≡ false
+      on (inl t) ih i m = absurd (none-some e.value (sym (sym (cond-true _ _ _ t) ∙ none)))
+      on (inr f) ih zero m = f
+      on (inr f) ih (suc i) m = ih (sym (cond-false _ _ _ f) ∙ none) i d (omega arith)
 
   pub put_at : (es : List (Entry K V)) (k : K) (v : V) (i : ℕ) (d : Entry K V) → i < length es → alike (get_or es i d).key k ≡ true → ((j : ℕ) → j < i → alike (get_or es j d).key k ≡ false) → put alike es k v ≡ set es i (record { key = k; value = v })
   put_at [] k v i d l yes' no' = absurd (omega arith)

@@ -1,17 +1,20 @@
--- A listing by keys. Assumes nothing.
+-- A listing of rows by their keys. Assumes nothing.
 use Rattle.std.specs.Prelude.{◌≡◌, ℕ, Bool, false, List, map, length, take, drop}
 use Rattle.std.specs.List.{AllAdjacentBelow}
 use Rattle.std.specs.List.Sorted.{IsPermutation}
 use Rattle.keys.specs.Order.{Rising}
 use Rattle.keyed_table.specs.declared.slot.Entry.{Entry}
 
--- of the first n entries, none has a lower key than the one before it
-abbrev pub Sorted : {K V : Type 0} → (K → K → Bool) → List (Entry K V) → ℕ → Type 0
-Sorted under es n = AllAdjacentBelow (λ x y. under y.key x.key ≡ false) es n
+abbrev pub key_of : {K V : Type 0} → Entry K V → K
+key_of e = e.key
 
--- the entries, by strictly ascending keys, in the first n places of a list that is otherwise as it was
-pub record Listed {K V : Type 0} (under : K → K → Bool) (es was is : List (Entry K V)) (n : ℕ) : Type 0 where
-  pub count : n ≡ length es
-  pub shuffled : IsPermutation es (take n is)
-  pub rising : Rising under (map (λ e. e.key) (take n is))
+-- none of the rows has a lower key than the one before it
+abbrev pub Sorted : {X K : Type 0} → (X → K) → (K → K → Bool) → List X → Type 0
+Sorted key under rows = AllAdjacentBelow (λ x y. under (key y) (key x) ≡ false) rows (length rows)
+
+-- the rows, by strictly ascending keys, in the first n places of a list that is otherwise as it was
+pub record Listed {X K : Type 0} (key : X → K) (under : K → K → Bool) (rows was is : List X) (n : ℕ) : Type 0 where
+  pub count : n ≡ length rows
+  pub shuffled : IsPermutation rows (take n is)
+  pub rising : Rising under (map key (take n is))
   pub rest : drop n is ≡ drop n was

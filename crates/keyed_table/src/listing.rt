@@ -2,7 +2,7 @@
 ghost use Rattle.std.specs.Prelude.{◌≡◌, ◌≤◌, length, take, drop};
 ghost use Rattle.std.specs.List.Sorted.{IsPermutation};
 ghost use Rattle.keyed_table.specs.Links.{Full, held};
-ghost use Rattle.keyed_table.specs.Listed.{Sorted};
+ghost use Rattle.keyed_table.specs.Listed.{key_of, Sorted};
 
 use crate::slot::{Entry, Slot};
 use keys::key::OrderedKey;
@@ -25,7 +25,7 @@ pub(crate) fn copy_out<K: Copy, V: Copy>(slots: &[Slot<K, V>], out: &mut [Entry<
 // Sorts the entries by their keys.
 pub(crate) fn by_key<K: OrderedKey + Copy, V>(entries: &mut [Entry<K, V>])
     ensures shuffled { IsPermutation entries.old entries.new }
-    ensures sorted { Sorted K.under entries.new (length entries.new) }
+    ensures sorted { Sorted key_of K.under entries.new }
 {
     entries.sort_unstable_by_key(|entry| entry.key);
 }

@@ -1,4 +1,4 @@
-// The checks of lists.
+// The lists of a chunk and of its modules, checked one after another.
 ghost use Rattle.std.specs.Prelude.{◌≡◌, map};
 ghost use Rattle.std.specs.List.{flat_map};
 ghost use Rattle.chunk_tables.specs.Lists.{first_found};
@@ -82,9 +82,10 @@ fn check_run_lists(chunk: &Chunk) -> Result<(), Refusal>
     check_others(chunk)
 }
 
-/// Refuses the first entry that names no row or a bad name, or stands out of order: the globals, the chunk's modules, the
-/// lists of each module, and then the lists in the order in which a chunk is named. The heap is for indexes that are let go
-/// again.
+/// Checks the lists of the chunk and of its modules, and refuses with the smallest number of the first faulty entry. Symbols
+/// are named in the order of these lists: a missing symbol would be passed over without a word, and with the chunk modules
+/// in another order than they run, bare names would go to other symbols. The heap is for an index of each module's bindings,
+/// by which unresolved names are looked up; where there is no memory for one the scopes are walked.
 #[tactic(auto, using(chunk_faults::proofs::Loops::over_append))]
 pub fn check_lists(heap: Global, chunk: &Chunk) -> Result<(), Refusal>
     ensures { told result ≡ first_found least (list_rows (chunk_of chunk.now)) }

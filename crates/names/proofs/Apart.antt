@@ -20,7 +20,7 @@ inside [] ys (d ∷ ds) plain e = let z : d ≡ 36 = cc in plain.0 z
 inside (x ∷ xs) ys [] plain e = let z : ◌≡◌ {A = ℕ} 0 1 = cc in omega arith
 inside (x ∷ xs) ys (d ∷ ds) plain e = let z : ds ≡ xs ++ 36 ∷ ys = cc in inside xs ys ds plain.1 z
 
--- the last `$` splits a list in one way
+-- what stands before a `$` is determined where no other `$` follows
 fronts : (xs ys ds es : List ℕ) → Plain ds → Plain es → xs ++ 36 ∷ ds ≡ ys ++ 36 ∷ es → xs ≡ ys
 fronts [] [] ds es p q e = refl
 fronts [] (y ∷ ys) ds es p q e = let z : ds ≡ ys ++ 36 ∷ es = cc in absurd (inside ys es ds p z)

@@ -1,4 +1,4 @@
--- Zeros behind a text: names with one text are one value. Assumes nothing.
+-- A name is told by its text alone, since all behind the text is zeros. Assumes nothing.
 use Rattle.std.proofs.Common.{◌≡◌, ℕ, zero, suc, ◌≤◌, length, get_or, replicate, Decides, sym, refl, ap, ◌∙◌, ⊎_elim, arith}
 use mathlib.Core.HLevel.{is_prop→PathP}
 use native.Mathlib.Bridge.{le_prop}
@@ -39,6 +39,6 @@ same_name x y e =
     (λ past. x.padded k past ∙ sym (y.padded k (omega arith)))
     (cases_lt k x.len)))
 
--- equal text is an equal value
+-- comparing the texts decides whether two names are one
 pub name_decides : (x y : Name) → Decides (bytes_eq (spelt x) (spelt y)) (x ≡ y)
 name_decides x y = Decides-like (bytes_eq (spelt x) (spelt y)) (same_name x y) (ap spelt) (bytes_eq-Decides (spelt x) (spelt y))

@@ -4,3 +4,4 @@ pub mod File
 pub mod Sets
 pub mod Held
 pub mod Laws
+pub mod Policies

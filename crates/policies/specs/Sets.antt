@@ -8,10 +8,16 @@ use Rattle.names.specs.declared.name.Name.{Name}
 use Rattle.names.specs.declared.refusal.Refusal.{Refusal}
 use Rattle.keyed_table.specs.Contents.{Contents, room}
 use Rattle.keyed_table.specs.declared.slot.Entry.{Entry}
+use Rattle.chunk_tables.specs.Model.{Chunk}
+use Rattle.policies.specs.InnerNames.{inner_name}
 
 -- one of the entries is spelt so
 abbrev pub has : List (Entry Name (Unit {0})) → List ℕ → Bool
 has es n = list_any (λ e. bytes_eq (spelt e.key) n) es
+
+-- the entries have the inner names of the chunk, and no others
+abbrev pub HoldsInnerNames : Chunk → List (Entry Name (Unit {0})) → Type 0
+HoldsInnerNames c es = (n : List ℕ) → has es n ≡ inner_name c n
 
 -- the entries fs have the names ns beside what es have, and are no more than as many
 pub record Noted (ns : List (List ℕ)) (es fs : List (Entry Name (Unit {0}))) : Type 0 where

@@ -3,6 +3,7 @@
 
 ghost use Rattle.policies.specs.Laws.{NamesOfInnerSymbols, NoOtherNames};
 
+pub mod chunk_policies;
 pub mod file_policy;
 pub mod inner_names;
 pub mod own_module;

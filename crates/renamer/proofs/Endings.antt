@@ -7,18 +7,18 @@ use Rattle.chunk_tables.specs.Lists.{maybe}
 use Rattle.chunk_tables.specs.Model.{Name, Symbol, Chunk}
 use Rattle.conflict_resolver.proofs.Reservations.{reserve_no_name}
 use Rattle.conflict_resolver.proofs.Searches.{no_base}
-use Rattle.session_rules.specs.Rules.{declines, found, to_nobody, settles, policy_named, name_reserved}
+use Rattle.session_rules.specs.Rules.{declines, answers, found, to_nobody, settles, policy_named, name_reserved}
 use Rattle.session_rules.specs.Session.{Session}
-use Rattle.renamer.specs.Checked.{root_of}
+use Rattle.renamer.specs.Rooted.{root_of}
 
 no_long_base : (b : Name) → 105 < length b → is_base b ≡ false
 no_long_base b h = grind (arith)
 
-pub long_search : (v : Name → Bool → Bool) (c : Chunk) (S : Session) (b : Name) (why : ℕ) → why ≡ 7 → 105 < length b → record { answer = declines why; after = S } ≡ policy_named v c S b
-long_search v c S b why w h = ap (λ k. record { answer = declines k; after = S }) w ∙ ap (found to_nobody S) (no_base v b c.records S.records (no_long_base b h))
+pub long_search : (v : Name → Bool → Bool) (c : Chunk) (S : Session) (b : Name) (why : ℕ) → why ≡ 7 → 105 < length b → answers (declines why) S ≡ policy_named v c S b
+long_search v c S b why w h = ap (λ k. answers (declines k) S) w ∙ ap (found to_nobody S) (no_base v b c.records S.records (no_long_base b h))
 
-pub long_reservation : (c : Chunk) (S : Session) (b : Name) (why : ℕ) → why ≡ 7 → 105 < length b → record { answer = declines why; after = S } ≡ name_reserved c S b
-long_reservation c S b why w h = ap (λ k. record { answer = declines k; after = S }) w ∙ ap (settles S) (reserve_no_name c.records S.records b (no_long_base b h))
+pub long_reservation : (c : Chunk) (S : Session) (b : Name) (why : ℕ) → why ≡ 7 → 105 < length b → answers (declines why) S ≡ name_reserved c S b
+long_reservation c S b why w h = ap (λ k. answers (declines k) S) w ∙ ap (settles S) (reserve_no_name c.records S.records b (no_long_base b h))
 
 -- a canonical symbol with its own name, and two answers that are the same
 abbrev pub Rooted : Type 0

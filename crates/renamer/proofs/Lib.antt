@@ -2,3 +2,4 @@ mod Endings
 mod Openings
 mod ShortNames
 mod Staying
+mod Others

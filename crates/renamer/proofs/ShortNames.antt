@@ -6,7 +6,7 @@ use Rattle.keys.specs.declared.refs.SymbolRef.{SymbolRef}
 use Rattle.chunk_tables.specs.Links.{symbol_at}
 use Rattle.chunk_tables.specs.Lists.{maybe}
 use Rattle.chunk_tables.specs.Model.{Symbol, Module, Chunk}
-use Rattle.renamer.specs.Checked.{SoundTables}
+use Rattle.chunk_faults.specs.Sound.{Sound}
 
 -- a symbol of the chunk is a symbol of its module
 pub of_module : (c : Chunk) (q : SymbolRef) (y : Symbol) → symbol_at c q ≡ Some y → (M : Module) × (slice_get c.modules q.owner ≡ Some M) × (slice_get M.symbols q.symbol ≡ Some y)
@@ -18,5 +18,5 @@ of_module c q y = on (slice_get c.modules q.owner) refl
     on (Some M) e h = (M, e, h)
 
 -- it has a name of at most 100 bytes
-pub not_long : (c : Chunk) → ∥ SoundTables c ∥₁ → (q : SymbolRef) (y : Symbol) → symbol_at c q ≡ Some y → 105 < length y.name → ⊥
-not_long c s q y h l = ∥∥₁_elim s (hlevel) (λ t. let m = of_module c q y h in let f = ((t.1.modules q.owner m.0 m.1).symbols q.symbol y m.2).name in omega (arith, f.1, l))
+pub not_long : (c : Chunk) → ∥ Sound c ∥₁ → (q : SymbolRef) (y : Symbol) → symbol_at c q ≡ Some y → 105 < length y.name → ⊥
+not_long c s q y h l = ∥∥₁_elim s (hlevel) (λ t. let m = of_module c q y h in let f = ((t.modules q.owner m.0 m.1).symbols q.symbol y m.2).name in omega (arith, f.1, l))

@@ -17,10 +17,10 @@ use Rattle.given_names.specs.Held.{naming, OfChunk}
 use Rattle.session_rules.specs.Calls.{Call, reserve, root, policy, told}
 use Rattle.session_rules.specs.Laws.{Opened}
 use Rattle.session_rules.specs.Rules.{already, declines, unchanged, found, to_nobody, to_symbol, settles, sought, named_now, named_in_root}
-use Rattle.session_rules.specs.Session.{Session, Given, name_of}
+use Rattle.session_rules.specs.Session.{Session, session, Given, name_of}
 use Rattle.session_rules.specs.Vetoes.{kind_vetoes}
 use Rattle.session_rules.proofs.Lawful.{stays_opened}
-use Rattle.renamer.specs.Checked.{root_of}
+use Rattle.renamer.specs.Rooted.{root_of}
 use Rattle.renamer.proofs.Endings.{Rooted, Same}
 
 abbrev rooted : Rooted → Result Rooted ℕ → Rooted
@@ -29,7 +29,7 @@ rooted d (Err e) = d
 
 module _ (c : Chunk) (S : Session) (opened : ∥ Opened c S ∥₁) where
   abbrev StillOpened : List Record → List Given → Type 0
-  StillOpened es gs = ∥ Opened c (record { records = es; given = gs }) ∥₁
+  StillOpened es gs = ∥ Opened c (session es gs) ∥₁
 
   over : (x : Call) → ∥ Opened c (told c S x).after ∥₁
   over x = ∥∥₁_map opened (stays_opened.later c S (x ∷ []))

@@ -4,20 +4,29 @@ use Rattle.names.specs.Refusals.{number_of}
 use Rattle.names.specs.Spelt.{spelt}
 use Rattle.names.specs.declared.refusal.Refusal.{Refusal}
 use Rattle.conflict_resolver.specs.declared.resolver.search.Resolved.{Resolved}
-use Rattle.session_rules.specs.Rules.{Told, given, already, agreed, declines}
+use Rattle.session_rules.specs.Rules.{Answer, Told, given, already, agreed, declines, answers}
 use Rattle.session_rules.specs.Session.{Session}
-use Rattle.renamer.specs.declared.renamer.naming.RootName.{RootName}
-use Rattle.renamer.specs.declared.renamer.naming.RootName.TheVariants.{Given, Already}
+use Rattle.renamer.specs.declared.renamer.naming.TopLevelName.{TopLevelName}
+use Rattle.renamer.specs.declared.renamer.naming.TopLevelName.TheVariants.{Given, Already}
 
-abbrev pub told_root : Result RootName Refusal → Session → Told
-told_root (Ok (Given r)) S = record { answer = given (spelt r.name) r.probes; after = S }
-told_root (Ok (Already n)) S = record { answer = already (spelt n); after = S }
-told_root (Err e) S = record { answer = declines (number_of e); after = S }
+abbrev pub name_answered : Result TopLevelName Refusal → Answer
+name_answered (Ok (Given r)) = given (spelt r.name) r.probes
+name_answered (Ok (Already n)) = already (spelt n)
+name_answered (Err e) = declines (number_of e)
+
+abbrev pub search_answered : Result Resolved Refusal → Answer
+search_answered (Ok r) = given (spelt r.name) r.probes
+search_answered (Err e) = declines (number_of e)
+
+abbrev pub end_answered : Result (Unit {0}) Refusal → Answer
+end_answered (Ok u) = agreed
+end_answered (Err e) = declines (number_of e)
+
+abbrev pub told_name : Result TopLevelName Refusal → Session → Told
+told_name r S = answers (name_answered r) S
 
 abbrev pub told_search : Result Resolved Refusal → Session → Told
-told_search (Ok r) S = record { answer = given (spelt r.name) r.probes; after = S }
-told_search (Err e) S = record { answer = declines (number_of e); after = S }
+told_search r S = answers (search_answered r) S
 
 abbrev pub told_end : Result (Unit {0}) Refusal → Session → Told
-told_end (Ok u) S = record { answer = agreed; after = S }
-told_end (Err e) S = record { answer = declines (number_of e); after = S }
+told_end r S = answers (end_answered r) S

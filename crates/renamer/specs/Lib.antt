@@ -1,8 +1,9 @@
-pub mod Memory
-pub mod Checked
-pub mod Opening
-pub mod Opened
+pub mod Helpers
+pub mod Rooted
 pub mod State
 pub mod Answers
+pub mod Drawing
+pub mod Opening
+pub mod Opened
 pub mod Printed
 pub mod Released

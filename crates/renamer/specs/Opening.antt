@@ -1,9 +1,10 @@
 -- What an opening puts on record. Assumes nothing.
-use Rattle.std.specs.Prelude.{◌≡◌, ℕ, List, [], length, min}
+use Rattle.std.specs.Prelude.{◌≡◌, ℕ, List, [], Some, length, min}
 use Rattle.keyed_table.specs.Links.{AllBlank}
 use Rattle.keyed_table.specs.declared.slot.Slot.{Slot}
 use Rattle.names.specs.declared.name.Name.{Name}
 use Rattle.chunk_tables.specs.declared.format.Format.{Format}
+use Rattle.chunk_tables.specs.Formats.{of_code}
 use Rattle.chunk_tables.specs.Model.{Chunk}
 use Rattle.conflict_resolver.specs.Held.{held, room, slots as slots_of}
 use Rattle.conflict_resolver.specs.Records.{Record}
@@ -16,15 +17,24 @@ use Rattle.reservations.specs.Reserving.{reserve_each}
 unfoldable pub reservations : Format → Chunk → ℕ → Reservation
 reservations f c memory = reserve_each (min c.records memory) [] (reserved_names f c)
 
+-- exactly the reserved names of the chunk's format are on record
+pub record Reserves (c : Chunk) (memory : ℕ) (es : List Record) : Type 0 where
+  pub format : Format
+  pub coded : of_code c.format ≡ Some format
+  pub reserved : made es ≡ reservations format c memory
+
 -- the resolver has the reserved names on record, and room for as many names as the chunk says
-pub record OpensRecords (f : Format) (c : Chunk) (memory : ℕ) (r : ConflictResolver) : Type 0 where
-  pub records : made (held r) ≡ reservations f c memory
+pub record OpensRecords (c : Chunk) (memory : ℕ) (r : ConflictResolver) : Type 0 where
+  pub records : Reserves c memory (held r)
   pub most : room r ≡ min c.records memory
   pub slots : slots_of r ≡ memory
 
--- the reserved names are refused with this number
-abbrev pub Exceeds : Format → Chunk → ℕ → ℕ → Type 0
-Exceeds f c memory why = (es : List Record) × (declined es why ≡ reservations f c memory)
+-- the reserved names are more than may be on record: they are refused with 10
+pub record Exceeds (c : Chunk) (memory : ℕ) : Type 0 where
+  pub format : Format
+  pub coded : of_code c.format ≡ Some format
+  pub so_far : List Record
+  pub refused : declined so_far 10 ≡ reservations format c memory
 
 -- so many slots, each of which is empty
 abbrev pub Emptied : ℕ → List (Slot Name ℕ) → Type 0

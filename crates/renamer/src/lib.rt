@@ -1,8 +1,7 @@
-// A session that gives names to the symbols of a chunk.
+// A session that gives names to the symbols of a chunk. It is open, and gives names at the top level; then it repairs the
+// modules of the chunk. Each of these states is a type with its own calls.
 #![tactic(auto)]
 
-pub mod checked;
-pub mod memory;
-mod records;
+pub mod nested_scopes;
+mod opened_records;
 pub mod renamer;
-pub mod repairing;

@@ -10,9 +10,10 @@ use Rattle.conflict_resolver.specs.Records.{Record, counter_of, recording, Apart
 use Rattle.conflict_resolver.specs.Rules.{Reservation, made, declined}
 use Rattle.conflict_resolver.proofs.Lookups.{same_true, recorded_same, recorded_other, apart_recorded}
 use Rattle.conflict_resolver.proofs.Reservations.{Ends, nameless, recorded, full, new, ends}
-use Rattle.reservations.specs.Laws.{ReservesTheNames, RefusedForCause, BasesRefusedWhereFull, ReservedAreOnRecord}
+use Rattle.reservations.specs.Laws.{ReservesTheNames, RefusedForCause, BasesRefusedWhereFull, SoundRefusedWhereFull, ReservedAreOnRecord}
 use Rattle.reservations.specs.Reserved.{among, reserved_names}
 use Rattle.reservations.specs.Reserving.{following, reserve_each}
+use Rattle.reservations.proofs.Bases.{bases_of_sound}
 
 -- the counter of a name after all of ns were reserved, where o was the one before
 abbrev counter_after : List (List ℕ) → List ℕ → Option ℕ → Option ℕ
@@ -99,7 +100,7 @@ module _ (most : ℕ) where
           inr (f, rw g at size, (x, first x ns, rw g at h))
       on (recorded h) e ih = among_more x ns es why (ih fs l e)
       on (new h m) e ih =
-          let size : length (recording fs x) ≤ most = omega (arith, length_push fs (x, 0)) in
+          let size : length (recording fs x) ≤ most = omega (arith, length_push fs (record { name = x; counter = 0 })) in
           among_more x ns es why (ih (recording fs x) size e)
 
 pub reserves_the_names : ReservesTheNames
@@ -117,6 +118,9 @@ bases_refused_where_full most ns es why bases e = on (refused_for_cause most ns 
     on : Caused most ns es why → (why ≡ 10) × (length es ≡ most) × ((n : List ℕ) × (among ns n ≡ true) × (counter_of es n ≡ None))
     on (inl (f, (n, is, h))) = absurd (both_ways _ h (bases n is))
     on (inr h) = h
+
+pub sound_refused_where_full : SoundRefusedWhereFull
+sound_refused_where_full most f c es why sound e = bases_refused_where_full most (reserved_names f c) es why (bases_of_sound f c sound) e
 
 pub reserved_are_on_record : ReservedAreOnRecord
 reserved_are_on_record most f c es coded e n is =

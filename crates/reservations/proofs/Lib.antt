@@ -1,4 +1,5 @@
 mod Appended
 mod Chained
 mod Long
+pub mod Bases
 pub mod Ends

@@ -1,6 +1,7 @@
 -- What holds of names that are reserved one after another, before anything is on record. Assumes nothing.
 use Rattle.std.specs.Prelude.{◌≡◌, ℕ, true, false, cond, ◌⊎◌, List, [], length, is_some, Some, None}
 use Rattle.names.specs.Bases.{is_base}
+use Rattle.chunk_faults.specs.Sound.{Sound}
 use Rattle.chunk_tables.specs.Formats.{of_code}
 use Rattle.chunk_tables.specs.Model.{Chunk}
 use Rattle.chunk_tables.specs.declared.format.Format.{Format}
@@ -25,6 +26,11 @@ abbrev pub BasesRefusedWhereFull : Type 0
 BasesRefusedWhereFull = (most : ℕ) (ns : List (List ℕ)) (es : List Record) (why : ℕ) → ((n : List ℕ) → among ns n ≡ true → is_base n ≡ true)
     → reserve_each most [] ns ≡ declined es why
     → (why ≡ 10) × (length es ≡ most) × ((n : List ℕ) × (among ns n ≡ true) × (counter_of es n ≡ None))
+
+-- so of a sound chunk, whose reserved names are bases, they are refused in that case only
+abbrev pub SoundRefusedWhereFull : Type 0
+SoundRefusedWhereFull = (most : ℕ) (f : Format) (c : Chunk) (es : List Record) (why : ℕ) → Sound c → reserve_each most [] (reserved_names f c) ≡ declined es why
+    → (why ≡ 10) × (length es ≡ most) × ((n : List ℕ) × (among (reserved_names f c) n ≡ true) × (counter_of es n ≡ None))
 
 -- so what is reserved in a chunk is on record once its reserved names are
 abbrev pub ReservedAreOnRecord : Type 0

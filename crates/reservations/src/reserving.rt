@@ -151,7 +151,10 @@ fn reserve_members(to: &mut ConflictResolver, format: Format, chunk: &Chunk) -> 
     reserve_numbered(to, format, chunk, &chunk.chunk_modules)
 }
 
-// Reserves the names that no symbol of the chunk is given.
+/// Puts on record each name that no symbol of the chunk may be given. They are the reserved words, which name nothing; the
+/// globals and the unresolved names, which the modules mean to find outside the chunk; and what the chunk prints by itself,
+/// as `Object`, `exports`, or the parameters of the function around a wrapped module. If `let Promise` stood at the top
+/// level, an `import()` printed by way of `Promise` would call it. A refusal leaves on record what was reserved before it.
 pub fn reserve_names(
     to: &mut ConflictResolver,
     format: Format,

@@ -1,8 +1,9 @@
-// Rows that have a text.
+// Rows that have a text: fixed texts, the rows of a list of names, and unresolved names.
 ghost use Rattle.std.specs.Prelude.{◌≡◌, ℕ, List, vec_items};
 
 use chunk_tables::parts::Unresolved;
 
+/// What can be reserved row by row, so that one loop serves each list of names.
 pub trait Text {
     ghost spells: { Self → List ℕ };
 

@@ -45,7 +45,7 @@ module _ (c : Chunk) (S : Session) (x : Call) where
   on_named r k n p (gives b m q es gs is g l a) e i = on a i
     where
       on : {y : Call} {gs : List Given} → Adds c S m q y gs → y ≡ root r k → name_of gs (canonical c r) ≡ Some n
-      on (for_symbol s j y stands none cand) h =
+      on (for_symbol s j y stands top none cand) h =
           let f : s ≡ r = cc in
           let w : m ≡ n = cc in
           ap (λ d. name_of (to_symbol (canonical c s) m S.given) (canonical c d)) (sym f) ∙ name_new S.given (canonical c s) m none ∙ ap Some w

@@ -9,15 +9,16 @@ use Rattle.reservations.specs.Reserved.{is_reserved}
 use Rattle.session_rules.specs.Events.{vetoes_of}
 use Rattle.session_rules.specs.Laws.{OwnName, Opened}
 use Rattle.session_rules.specs.Rules.{Told, to_symbol}
-use Rattle.session_rules.specs.Session.{Given, Session, name_of}
+use Rattle.session_rules.specs.Session.{Given, Session, session, with_records, name_of}
 use Rattle.session_rules.proofs.Lasting.{Later, later_same, later_kept, later_granted, still, unlike}
-use Rattle.session_rules.proofs.Names.{name_stays, name_comes}
+use Rattle.session_rules.proofs.Names.{name_stays, name_comes, once_more}
 use Rattle.session_rules.proofs.Steps.{Adds, for_helper, for_caller, for_symbol, Step, gives, repeats, agrees, refuses}
 
 -- given names whose records are lost in no step: they stay as they are, or one is added
-grown_records : (c : Chunk) (S : Session) (es : List Record) → Later S.records es → Opened c S → Opened c (record { records = es; given = S.given })
+grown_records : (c : Chunk) (S : Session) (es : List Record) → Later S.records es → Opened c S → Opened c (with_records S es)
 grown_records c S es l o = record {
   recorded = λ q n e. still S.records es n l (o.recorded q n e);
+  once = o.once;
   apart = o.apart;
   own = o.own;
   reserved = λ n e. still S.records es n l (o.reserved n e);
@@ -25,14 +26,15 @@ grown_records c S es l o = record {
 }
 
 module _ (c : Chunk) (S : Session) (o : Opened c S) (es : List Record) (l : Later S.records es) (q : SymbolRef) (n : Name) (new : OwnName c q n)
-    (unrecorded : counter_of S.records n ≡ None) (recorded : counter_of es n ≡ Some 0) where
+    (none : name_of S.given q ≡ None) (unrecorded : counter_of S.records n ≡ None) (recorded : counter_of es n ≡ Some 0) where
   -- a name that a symbol had is another than the new one
   differs : (r : SymbolRef) (m : Name) → name_of S.given r ≡ Some m → m ≡ n → ⊥
   differs r m e = unlike S.records n m unrecorded (o.recorded r m e)
 
-  added_name : Opened c (record { records = es; given = to_symbol q n S.given })
+  added_name : Opened c (session es (to_symbol q n S.given))
   added_name = record {
     recorded = λ r m e. on_record r m (name_comes S.given q r n m e);
+    once = once_more S.given q n none o.once;
     apart = λ r s m k ne e f. apart r s m k ne (name_comes S.given q r n m e) (name_comes S.given q s n k f);
     own = λ r m e. own r m (name_comes S.given q r n m e);
     reserved = λ m e. still S.records es m l (o.reserved m e);
@@ -73,7 +75,7 @@ module _ (c : Chunk) (S : Session) (x : Call) where
   adds_no_change : (q : SymbolRef) (m n : Name) (p : ℕ) {y : Call} {gs : List Given} → Adds c S n p y gs → name_of S.given q ≡ Some m → name_of gs q ≡ Some m
   adds_no_change q m n p (for_helper b) e = e
   adds_no_change q m n p (for_caller v b) e = e
-  adds_no_change q m n p (for_symbol r k y stands none is) e = name_stays S.given (canonical c r) q n m e
+  adds_no_change q m n p (for_symbol r k y stands top none is) e = name_stays S.given (canonical c r) q n m e
 
   pub keeps_names : (q : SymbolRef) (m : Name) {t : Told} → Step c S x t → name_of S.given q ≡ Some m → name_of t.after.given q ≡ Some m
   keeps_names q m (gives b n p es gs is g l a) e = adds_no_change q m n p a e
@@ -82,12 +84,12 @@ module _ (c : Chunk) (S : Session) (x : Call) where
   pub keeps_opened : {t : Told} → Step c S x t → Opened c S → Opened c t.after
   keeps_opened (gives b n p es gs is g m a) o = on (later_granted _ b S.records es n p g) a g.unvetoed
     where
-      on : Later S.records es → {y : Call} {gs : List Given} → Adds c S n p y gs → vetoes_of c y n (p == 0) ≡ false → Opened c (record { records = es; given = gs })
+      on : Later S.records es → {y : Call} {gs : List Given} → Adds c S n p y gs → vetoes_of c y n (p == 0) ≡ false → Opened c (session es gs)
       on l (for_helper b) h = grown_records c S es l o
       on l (for_caller v b) h = grown_records c S es l o
-      on l (for_symbol q k y stands none cand) h =
-          let own : OwnName c (canonical c q) n = record { symbol = y; stands = stands; probes = p; candidate = cand; kind = k; unvetoed = h } in
-          added_name c S o es l (canonical c q) n own g.unrecorded g.recorded
+      on l (for_symbol q k y stands top none cand) h =
+          let own : OwnName c (canonical c q) n = record { symbol = y; stands = stands; root = top; probes = p; candidate = cand; kind = k; unvetoed = h } in
+          added_name c S o es l (canonical c q) n own none g.unrecorded g.recorded
   keeps_opened (repeats q k n is e) o = o
   keeps_opened (agrees n es is h) o = grown_records c S es h.later o
   keeps_opened (refuses es why r l) o = grown_records c S es (later_kept S.records es r.kept) o

@@ -7,7 +7,7 @@ use Rattle.conflict_resolver.specs.Records.{counter_of}
 use Rattle.session_rules.specs.Calls.{Call, told, after_all}
 use Rattle.session_rules.specs.Events.{Event, Happens, Giving, Refusing, Naming, Reserving}
 use Rattle.session_rules.specs.Laws.{Kept, NothingElse, Opened, StaysOpened, Apart, Fresh, Unvetoed, FromItsOwnName, Bounded, Untouched, ReservedNeverGiven}
-use Rattle.session_rules.specs.Session.{Session, name_of}
+use Rattle.session_rules.specs.Session.{Session, session, name_of}
 use Rattle.session_rules.proofs.Effects.{keeps_records, keeps_names, keeps_opened}
 use Rattle.session_rules.proofs.Lasting.{Later, later_same, later_trans, still, unlike}
 use Rattle.session_rules.proofs.Runs.{at_the_end, on_the_way, between, to_the_end, each}
@@ -80,6 +80,7 @@ pub stays_opened : StaysOpened
 stays_opened = record {
   at_first = λ c es h. record {
     recorded = λ q n e. absurd (none-some n e);
+    once = λ j k g h e. absurd (none-some g e);
     apart = λ q r n m ne e. absurd (none-some n e);
     own = λ q n e. absurd (none-some n e);
     reserved = h;
@@ -104,7 +105,7 @@ bounded = record {
 }
 
 same_session : (S T : Session) → T.records ≡ S.records → T.given ≡ S.given → T ≡ S
-same_session S T e f = λ i. record { records = e i; given = f i }
+same_session S T e f = λ i. session (e i) (f i)
 
 pub untouched : Untouched
 untouched = record {

@@ -11,8 +11,8 @@ use Rattle.conflict_resolver.specs.Records.{counter_of}
 use Rattle.conflict_resolver.proofs.Lookups.{grown_some, same_true}
 use Rattle.session_rules.specs.Calls.{Call, reserve, root, told, after_all}
 use Rattle.session_rules.specs.Events.{event, Happens, Giving, Naming, Reserving}
-use Rattle.session_rules.specs.Rules.{Told, given, agreed}
-use Rattle.session_rules.specs.Session.{Given, Session, name_of}
+use Rattle.session_rules.specs.Rules.{Told, given, agreed, answers}
+use Rattle.session_rules.specs.Session.{Given, Session, session, with_records, name_of}
 use Rattle.session_rules.proofs.Names.{name_comes}
 use Rattle.session_rules.proofs.Steps.{Adds, for_helper, for_caller, for_symbol, Step, gives, repeats, agrees, refuses, step}
 
@@ -29,7 +29,7 @@ module _ (c : Chunk) (S : Session) (x : Call) where
       → (name_of S.given q ≡ Some n) ⊎ ((r : SymbolRef) × (k : RootBindingKind) × (m ≡ n) × (y ≡ root r k) × (canonical c r ≡ q))
   adds_name q n m p (for_helper b) e = inl e
   adds_name q n m p (for_caller v b) e = inl e
-  adds_name q n m p (for_symbol r k y stands none is) e = on (name_comes S.given (canonical c r) q m n e)
+  adds_name q n m p (for_symbol r k y stands top none is) e = on (name_comes S.given (canonical c r) q m n e)
     where
       on : (name_of S.given q ≡ Some n) ⊎ ((canonical c r ≡ q) × (m ≡ n)) → (name_of S.given q ≡ Some n) ⊎ ((s : SymbolRef) × (j : RootBindingKind) × (m ≡ n) × (root r k ≡ root s j) × (canonical c s ≡ q))
       on (inl f) = inl f
@@ -39,7 +39,7 @@ module _ (c : Chunk) (S : Session) (x : Call) where
   name_from q n (gives b m p es gs is g l a) e = on (adds_name q n m p a e)
     where
       on : (name_of S.given q ≡ Some n) ⊎ ((r : SymbolRef) × (k : RootBindingKind) × (m ≡ n) × (x ≡ root r k) × (canonical c r ≡ q))
-          → (name_of S.given q ≡ Some n) ⊎ Names q n (record { answer = given m p; after = record { records = es; given = gs } })
+          → (name_of S.given q ≡ Some n) ⊎ Names q n (answers (given m p) (session es gs))
       on (inl f) = inl f
       on (inr (r, k, f, h, i)) = inr (p, r, k, ap (λ d. given d p) f, h, i)
   name_from q n _ e = inl e
@@ -47,13 +47,13 @@ module _ (c : Chunk) (S : Session) (x : Call) where
   record_from : (n : Name) {t : Told} → Step c S x t → is_some (counter_of t.after.records n) ≡ true → (is_some (counter_of S.records n) ≡ true) ⊎ Brings n t
   record_from n (gives b m p es gs is g l a) e = on (bytes_eq n m) refl
     where
-      on : (t : Bool) → bytes_eq n m ≡ t → (is_some (counter_of S.records n) ≡ true) ⊎ Brings n (record { answer = given m p; after = record { records = es; given = gs } })
+      on : (t : Bool) → bytes_eq n m ≡ t → (is_some (counter_of S.records n) ≡ true) ⊎ Brings n (answers (given m p) (session es gs))
       on true f = inr (inl (p, ap (λ d. given d p) (sym ((bytes_eq-Decides n m).0 f))))
       on false f = inl (sym (grown_some (counter_of S.records n) (counter_of es n) (g.others n (λ h. both_ways _ f (same_true n m h)))) ∙ e)
   record_from n (repeats q k m is f) e = inl e
   record_from n (agrees m es is h) e = on (bytes_eq n m) refl
     where
-      on : (t : Bool) → bytes_eq n m ≡ t → (is_some (counter_of S.records n) ≡ true) ⊎ Brings n (record { answer = agreed; after = record { records = es; given = S.given } })
+      on : (t : Bool) → bytes_eq n m ≡ t → (is_some (counter_of S.records n) ≡ true) ⊎ Brings n (answers agreed (with_records S es))
       on true f = inr (inr (is ∙ ap reserve (sym ((bytes_eq-Decides n m).0 f)), refl))
       on false f = inl (ap is_some (sym (h.others n (λ i. both_ways _ f (same_true n m i)))) ∙ e)
   record_from n (refuses es why r l) e = inl (sym (grown_some (counter_of S.records n) (counter_of es n) (r.kept.grown n)) ∙ e)

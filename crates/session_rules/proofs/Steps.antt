@@ -1,5 +1,6 @@
 -- What a call does, by how it ends. Assumes nothing.
 use Rattle.std.proofs.Common.{◌≡◌, ℕ, ◌<◌, ◌≤◌, Bool, true, false, cond, ◌==◌, List, Some, None, Option, refl, ap, arith}
+use Rattle.std.proofs.lemmas.Bool.{eqb-true}
 use Rattle.keys.specs.declared.refs.SymbolRef.{SymbolRef}
 use Rattle.chunk_tables.specs.declared.kind.RootBindingKind.{RootBindingKind}
 use Rattle.chunk_tables.specs.Links.{symbol_at, canonical}
@@ -13,25 +14,25 @@ use Rattle.conflict_resolver.proofs.Reservations.{Ends, nameless, recorded, full
 use Rattle.conflict_resolver.proofs.Searches.{sound_of, bounded_of}
 use Rattle.session_rules.specs.Calls.{Call, reserve, root, helper, policy, told}
 use Rattle.session_rules.specs.Events.{base_of, vetoes_of}
-use Rattle.session_rules.specs.Rules.{Told, given, already, agreed, declines, unchanged, found, to_nobody, to_symbol, named_now, named_in_root, settles}
-use Rattle.session_rules.specs.Session.{Given, Session, name_of}
+use Rattle.session_rules.specs.Rules.{Told, given, already, agreed, declines, answers, unchanged, found, to_nobody, to_symbol, named_now, named_in_root, settles}
+use Rattle.session_rules.specs.Session.{Given, Session, session, with_records, name_of}
 use Rattle.session_rules.proofs.Lasting.{Reserved, reserved_recorded, reserved_new}
 
 -- what a name n that was found adds to the given names
 pub data Adds (c : Chunk) (S : Session) (n : Name) (p : ℕ) : Call → List Given → Type 0 where
   for_helper : (b : Name) → Adds c S n p (helper b) S.given
   for_caller : (v : Name → Bool → Bool) (b : Name) → Adds c S n p (policy v b) S.given
-  for_symbol : (q : SymbolRef) (k : RootBindingKind) (y : Symbol) → symbol_at c (canonical c q) ≡ Some y → name_of S.given (canonical c q) ≡ None
+  for_symbol : (q : SymbolRef) (k : RootBindingKind) (y : Symbol) → symbol_at c (canonical c q) ≡ Some y → y.scope ≡ 0 → name_of S.given (canonical c q) ≡ None
       → Candidate y.name n p → Adds c S n p (root q k) (to_symbol (canonical c q) n S.given)
 
 pub data Step (c : Chunk) (S : Session) (x : Call) : Told → Type 0 where
   gives : (b n : Name) (p : ℕ) (es : List Record) (gs : List Given) → base_of c x ≡ Some b → Granted (vetoes_of c x) b S.records es n p
-      → p ≤ most_probes (vetoes_of c x) b S.records → Adds c S n p x gs → Step c S x (record { answer = given n p; after = record { records = es; given = gs } })
+      → p ≤ most_probes (vetoes_of c x) b S.records → Adds c S n p x gs → Step c S x (answers (given n p) (session es gs))
   repeats : (q : SymbolRef) (k : RootBindingKind) (n : Name) → x ≡ root q k → name_of S.given (canonical c q) ≡ Some n → Step c S x (unchanged S (already n))
-  agrees : (n : Name) (es : List Record) → x ≡ reserve n → Reserved S.records n es → Step c S x (record { answer = agreed; after = record { records = es; given = S.given } })
+  agrees : (n : Name) (es : List Record) → x ≡ reserve n → Reserved S.records n es → Step c S x (answers agreed (with_records S es))
   refuses : (es : List Record) (why : ℕ) → Refused S.records es why
       → (why ≡ 12 → (b : Name) × (base_of c x ≡ Some b) × (4096 < most_probes (vetoes_of c x) b S.records))
-      → Step c S x (record { answer = declines why; after = record { records = es; given = S.given } })
+      → Step c S x (answers (declines why) (with_records S es))
 
 -- a refusal before any search
 early : (c : Chunk) (S : Session) (x : Call) (why : ℕ) → why < 11 → Step c S x (unchanged S (declines why))
@@ -58,13 +59,13 @@ reserves c S n (new h l) = agrees n _ refl (reserved_new S.records n h)
 -- a name for the canonical symbol y
 in_root : (c : Chunk) (S : Session) (q : SymbolRef) (k : RootBindingKind) (y : Symbol) → symbol_at c (canonical c q) ≡ Some y
     → Step c S (root q k) (named_in_root c S (canonical c q) k y)
-in_root c S q k y e = on (y.scope == 0) (name_of S.given (canonical c q)) refl
+in_root c S q k y e = on (y.scope == 0) (name_of S.given (canonical c q)) refl refl
   where
-    on : (top : Bool) (o : Option Name) → name_of S.given (canonical c q) ≡ o
+    on : (top : Bool) (o : Option Name) → (y.scope == 0) ≡ top → name_of S.given (canonical c q) ≡ o
         → Step c S (root q k) (cond top (maybe o (named_now c S (canonical c q) k y) (λ n. unchanged S (already n))) (unchanged S (declines 9)))
-    on true None f = searches c S (root q k) y.name (to_symbol (canonical c q)) (ap (λ o. maybe o None (λ y. Some y.name)) e) (λ n p is. for_symbol q k y e f is)
-    on true (Some n) f = repeats q k n refl f
-    on false o f = early c S (root q k) 9 (omega arith)
+    on true None t f = searches c S (root q k) y.name (to_symbol (canonical c q)) (ap (λ o. maybe o None (λ y. Some y.name)) e) (λ n p is. for_symbol q k y e (eqb-true y.scope 0 t) f is)
+    on true (Some n) t f = repeats q k n refl f
+    on false o t f = early c S (root q k) 9 (omega arith)
 
 pub step : (c : Chunk) (S : Session) (x : Call) → Step c S x (told c S x)
 step c S (reserve n) = reserves c S n (ends c.records S.records n)

@@ -6,7 +6,7 @@ use Rattle.chunk_tables.specs.declared.parts.ModuleKind.TheVariants.{Normal}
 use Rattle.chunk_tables.specs.Model.{Name, Symbol, Module, Chunk}
 use Rattle.session_rules.specs.Calls.{Call, reserve, root, helper, policy, told_all}
 use Rattle.session_rules.specs.Rules.{Answer, given, already, agreed, declines}
-use Rattle.session_rules.specs.Session.{Session}
+use Rattle.session_rules.specs.Session.{Session, unnamed}
 
 abbrev symbol : ℕ → ℕ → SymbolRef
 symbol m s = record { owner = m; symbol = s }
@@ -55,7 +55,7 @@ example = record {
 }
 
 abbrev at_first : Session
-at_first = record { records = []; given = [] }
+at_first = unnamed []
 
 -- the calls in their order, each with what it is answered
 pub record Line : Type 0 where

@@ -1,5 +1,6 @@
 -- What holds of every list of calls of an open session, from whatever state S on. Assumes nothing.
-use Rattle.std.specs.Prelude.{◌≡◌, ℕ, ◌<◌, ◌≤◌, false, List, [], is_some, true, Some, None, ◌==◌, ◌≢◌, ◌⊎◌}
+use Rattle.std.specs.Prelude.{◌≡◌, ℕ, ◌<◌, ◌≤◌, false, List, is_some, true, Some, None, ◌==◌, ◌≢◌, ◌⊎◌}
+use Rattle.std.specs.List.{slice_get}
 use Rattle.keys.specs.declared.refs.SymbolRef.{SymbolRef}
 use Rattle.chunk_tables.specs.declared.kind.RootBindingKind.{RootBindingKind}
 use Rattle.chunk_tables.specs.Links.{symbol_at, canonical}
@@ -10,7 +11,7 @@ use Rattle.reservations.specs.Reserved.{is_reserved}
 use Rattle.session_rules.specs.Calls.{Call, root, after_all}
 use Rattle.session_rules.specs.Events.{Happens, Giving, Refusing, Naming, Reserving, base_of, vetoes_of}
 use Rattle.session_rules.specs.Rules.{already}
-use Rattle.session_rules.specs.Session.{Session, name_of}
+use Rattle.session_rules.specs.Session.{Given, Session, unnamed, name_of}
 use Rattle.session_rules.specs.Vetoes.{kind_vetoes}
 
 -- nothing is lost: a symbol's name stays its name, and so does one that it is given; a name stays on record, and its counter
@@ -36,19 +37,22 @@ pub record NothingElse : Type 0 where
   pub records : (c : Chunk) (S : Session) (xs : List Call) (n : Name) → is_some (counter_of (after_all c S xs).records n) ≡ true
       → (is_some (counter_of S.records n) ≡ true) ⊎ (((g : Giving c S xs) × (g.name ≡ n)) ⊎ Reserving c S xs n)
 
--- n is the symbol q's own name, found without a probe, or a numbered form of that, and the policy of a kind does not veto it
+-- the symbol q stands in a root; n is its own name, found without a probe, or a numbered form of that, and the policy of a kind
+-- does not veto it
 pub record OwnName (c : Chunk) (q : SymbolRef) (n : Name) : Type 0 where
   pub symbol : Symbol
   pub stands : symbol_at c q ≡ Some symbol
+  pub root : symbol.scope ≡ 0
   pub probes : ℕ
   pub candidate : Candidate symbol.name n probes
   pub kind : RootBindingKind
   pub unvetoed : kind_vetoes c q kind n (probes == 0) ≡ false
 
--- of a session: each given name is on record, no two symbols have one name, and each has its own; the reserved names are on
--- record, and none was given
+-- of a session: each given name is on record, no symbol is named twice, no two symbols have one name, and each stands in a root
+-- and has its own; the reserved names are on record, and none was given
 pub record Opened (c : Chunk) (S : Session) : Type 0 where
   pub recorded : (q : SymbolRef) (n : Name) → name_of S.given q ≡ Some n → is_some (counter_of S.records n) ≡ true
+  pub once : (j k : ℕ) (g h : Given) → slice_get S.given j ≡ Some g → slice_get S.given k ≡ Some h → g.symbol ≡ h.symbol → j ≡ k
   pub apart : (q r : SymbolRef) (n m : Name) → q ≢ r → name_of S.given q ≡ Some n → name_of S.given r ≡ Some m → n ≢ m
   pub own : (q : SymbolRef) (n : Name) → name_of S.given q ≡ Some n → OwnName c q n
   pub reserved : (n : Name) → is_reserved c n ≡ true → is_some (counter_of S.records n) ≡ true
@@ -57,7 +61,7 @@ pub record Opened (c : Chunk) (S : Session) : Type 0 where
 -- it holds before any name is given, where the reserved names are on record, and whatever is called then
 pub record StaysOpened : Type 0 where
   pub at_first : (c : Chunk) (es : List Record) → ((n : Name) → is_reserved c n ≡ true → is_some (counter_of es n) ≡ true)
-      → Opened c (record { records = es; given = [] })
+      → Opened c (unnamed es)
   pub later : (c : Chunk) (S : Session) (xs : List Call) → Opened c S → Opened c (after_all c S xs)
 
 -- no name is given twice, and two symbols have two names

@@ -6,7 +6,7 @@ use Rattle.chunk_tables.specs.Links.{symbol_at, canonical}
 use Rattle.chunk_tables.specs.Lists.{maybe}
 use Rattle.chunk_tables.specs.Model.{Name, Symbol, Chunk}
 use Rattle.conflict_resolver.specs.Rules.{Outcome, granted, refused, searched, Reservation, made, declined, reserved}
-use Rattle.session_rules.specs.Session.{Given, Session, name_of}
+use Rattle.session_rules.specs.Session.{Given, Session, session, with_records, name_of}
 use Rattle.session_rules.specs.Vetoes.{kind_vetoes}
 
 -- an answer: a name that is given now, with its probes; the name that the symbol has; that all is done; or a refusal
@@ -20,14 +20,18 @@ pub record Told : Type 0 where
   pub answer : Answer
   pub after : Session
 
+-- the answer a, with the session S after it
+abbrev pub answers : Answer → Session → Told
+answers a S = record { answer = a; after = S }
+
 -- nothing has changed
 abbrev pub unchanged : Session → Answer → Told
-unchanged S a = record { answer = a; after = S }
+unchanged S a = answers a S
 
 -- how a search ends: a name that is found is what was asked for; `gives` adds it to the given names, where it is a symbol's
 abbrev pub found : (Name → List Given → List Given) → Session → Outcome → Told
-found gives S (granted es n p) = record { answer = given n p; after = record { records = es; given = gives n S.given } }
-found gives S (refused es why) = record { answer = declines why; after = record { records = es; given = S.given } }
+found gives S (granted es n p) = answers (given n p) (session es (gives n S.given))
+found gives S (refused es why) = answers (declines why) (with_records S es)
 
 abbrev pub to_nobody : Name → List Given → List Given
 to_nobody n gs = gs
@@ -60,8 +64,8 @@ policy_named vetoes c S b = found to_nobody S (sought vetoes c S b)
 
 -- how a reservation ends
 abbrev pub settles : Session → Reservation → Told
-settles S (made es) = record { answer = agreed; after = record { records = es; given = S.given } }
-settles S (declined es why) = record { answer = declines why; after = record { records = es; given = S.given } }
+settles S (made es) = answers agreed (with_records S es)
+settles S (declined es why) = answers (declines why) (with_records S es)
 
 abbrev pub name_reserved : Chunk → Session → Name → Told
 name_reserved c S n = settles S (reserved c.records S.records n)

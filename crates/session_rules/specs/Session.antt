@@ -14,6 +14,17 @@ pub record Session : Type 0 where
   pub records : List Record
   pub given : List Given
 
+abbrev pub session : List Record → List Given → Session
+session es gs = record { records = es; given = gs }
+
+-- a session that has given no name yet
+abbrev pub unnamed : List Record → Session
+unnamed es = session es []
+
+-- the session with other records
+abbrev pub with_records : Session → List Record → Session
+with_records S es = session es S.given
+
 abbrev pub same_symbol : SymbolRef → SymbolRef → Bool
 same_symbol p q = (p.owner == q.owner) && (p.symbol == q.symbol)
 

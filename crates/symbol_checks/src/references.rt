@@ -26,7 +26,7 @@ impl<'c, 'm> ModuleCheck<'c, 'm> {
             || dangles(self.chunk, reference.resolved)
     }
 
-    // Whether the target is a facade, or not the nearest binding of its name.
+    // Whether a lookup of the target's name from the reference would not find the target.
     fn misses_target(&self, reference: &Reference, target: &Symbol) -> bool
         ensures { result ≡ misses_target (module_of self.now.indexed.module.now) reference.now (symbol_of target.now) }
     {
@@ -75,6 +75,10 @@ fn check_module_references(heap: Global, chunk: &Chunk, module: &Module) -> Resu
     )
 }
 
+/// Checks each module's references, and refuses with the smallest number of the first faulty one. A reference has to be to
+/// the symbol that its name means where it stands: in `let a; { let a; a; }` that is the inner `a`, and no choice of names
+/// makes up for a table that says otherwise. The heap is for an index of each module's bindings; where there is no memory
+/// for one the scopes are walked, and the answer is the same.
 pub fn check_references(heap: Global, chunk: &Chunk) -> Result<(), Refusal>
     ensures { told result ≡ first_found least (flat_map (reference_rows (chunk_of chunk.now)) (chunk_of chunk.now).modules) }
 {

@@ -114,6 +114,10 @@ fn check_module_symbols(heap: Global, chunk: &Chunk, module: &Module) -> Result<
     )
 }
 
+/// Checks each module's symbols, and refuses with the smallest number of the first faulty one. Names go by scopes, links
+/// and aliases, so these have to be unambiguous: after `let a; let a;` nothing tells which `a` is meant, and links in a
+/// circle have no end to take a name from. The heap is for an index of each module's bindings; where there is no memory for
+/// one the scopes are walked, and the answer is the same.
 pub fn check_symbols(heap: Global, chunk: &Chunk) -> Result<(), Refusal>
     ensures { told result ≡ first_found least (flat_map (symbol_rows (chunk_of chunk.now)) (chunk_of chunk.now).modules) }
 {

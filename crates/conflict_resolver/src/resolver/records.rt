@@ -1,16 +1,18 @@
 // What is on record.
-ghost use Rattle.std.specs.Prelude.{◌≡◌, ◌+◌, ◌<◌, true, ◌||◌, [], length, is_some, Some, None, min, vec_len, MatchResult, nat_lt};
+ghost use Rattle.std.specs.Prelude.{◌≡◌, ◌<◌, ◌≤◌, true, ◌||◌, [], length, take, drop, is_some, Some, None, min, vec_len, MatchResult};
 ghost use Rattle.std.specs.Option.{option_map};
 ghost use Rattle.std.specs.List.{slice_get};
+ghost use Rattle.std.specs.List.Sorted.{IsPermutation};
 ghost use Rattle.names.specs.Refusals.{number_of};
 ghost use Rattle.names.specs.Spelt.{spelt};
 ghost use Rattle.keyed_table.specs.Model.{put};
-ghost use Rattle.keys.specs.Names.{name_alike};
+ghost use Rattle.keys.specs.Names.{name_alike, name_under};
 ghost use Rattle.keyed_table.specs.Links.{AllBlank};
+ghost use Rattle.keyed_table.specs.Listed.{Listed, Sorted};
 ghost use Rattle.conflict_resolver.specs.Answers.{settled};
-ghost use Rattle.conflict_resolver.specs.Held.{held, room, slots as slots_of, rows, Ascending};
-ghost use Rattle.conflict_resolver.specs.Rows.{record_of};
-ghost use Rattle.conflict_resolver.specs.Records.{counter_of, raised, recording};
+ghost use Rattle.conflict_resolver.specs.Held.{entries_of, held, room, slots as slots_of, rows};
+ghost use Rattle.conflict_resolver.specs.Rows.{record_of, name_of};
+ghost use Rattle.conflict_resolver.specs.Records.{counter_of, raised, recording, has_free};
 ghost use Rattle.conflict_resolver.specs.Rules.{reserved};
 
 use super::{ConflictResolver, NameRecord, RecordSlot};
@@ -18,11 +20,19 @@ use keyed_table::table::Table;
 use names::name::Name;
 use names::refusal::Refusal;
 
+// Sorts the records by their names.
+fn by_name(records: &mut [NameRecord])
+    ensures shuffled { IsPermutation records.old records.new }
+    ensures sorted { Sorted name_of name_under records.new }
+{
+    records.sort_unstable_by_key(|record| record.name);
+}
+
 // Each change says beside the records that the room stays: it is a fact about two states, which no type can hold. A free
 // record is asked for only where one is taken, since a full memory is a memory too.
 impl ConflictResolver {
-    // With nothing on record, over the slots, each of which is emptied. At most so many names may be on record, and no more
-    // than there are slots.
+    /// With nothing on record, over the slots, each of which is emptied, whatever an earlier use left in it. As many names
+    /// may be on record as `most` says, and no more than there are slots.
     pub fn new(slots: Vec<RecordSlot>, most: usize) -> ConflictResolver
         ensures empty { held result ≡ [] }
         ensures room { room result ≡ min most (vec_len slots) }
@@ -34,18 +44,23 @@ impl ConflictResolver {
         ConflictResolver { used, most }
     }
 
-    // How many names are on record.
+    /// How many names are on record.
     pub fn len(&self) -> usize
         ensures { result ≡ length (held self.now) }
     {
         self.used.len()
     }
 
-    // The i-th record, in the order in which they were made.
+    /// The i-th record, oldest first. Records stay in their places, so a caller can read on from where it stopped.
     pub fn record_at(&self, i: usize) -> Option<NameRecord>
-        ensures { option_map record_of result ≡ slice_get (held self.now) i }
+        ensures row { result ≡ slice_get (rows self.now) i }
+        ensures recorded { option_map record_of result ≡ slice_get (held self.now) i }
     {
-        self.used.entry(i)
+        let entry = self.used.entry(i)?;
+        Some(NameRecord {
+            name: entry.key,
+            counter: entry.value,
+        })
     }
 
     // The counter of a name that is on record.
@@ -55,6 +70,7 @@ impl ConflictResolver {
         self.used.find(name)
     }
 
+    /// Whether a name is on record, and so no search can answer it any more.
     pub fn contains(&self, name: &Name) -> bool
         ensures { result ≡ is_some (counter_of (held self.now) (spelt name.now)) }
     {
@@ -63,8 +79,8 @@ impl ConflictResolver {
 
     // Stores the counter of a name: in its record, or in a new one.
     fn store(&mut self, name: &Name, counter: u16)
-        requires { is_some (counter_of (held self.old) (spelt name.now)) || nat_lt (length (held self.old)) (room self.old) ≡ true }
-        ensures rows { rows self.new ≡ put name_alike (rows self.old) name.now counter }
+        requires { is_some (counter_of (held self.old) (spelt name.now)) || has_free (room self.old) (held self.old) ≡ true }
+        ensures entries { entries_of self.new ≡ put name_alike (entries_of self.old) name.now counter }
         ensures room { room self.new ≡ room self.old }
         ensures slots { slots_of self.new ≡ slots_of self.old }
     {
@@ -85,7 +101,7 @@ impl ConflictResolver {
     // Puts a name on record with 0.
     pub(crate) fn put_on_record(&mut self, name: &Name)
         requires unrecorded { counter_of (held self.old) (spelt name.now) ≡ None }
-        requires free { length (held self.old) < room self.old }
+        requires free { has_free (room self.old) (held self.old) ≡ true }
         ensures records { held self.new ≡ recording (held self.old) (spelt name.now) }
         ensures room { room self.new ≡ room self.old }
         ensures slots { slots_of self.new ≡ slots_of self.old }
@@ -93,14 +109,16 @@ impl ConflictResolver {
         self.store(name, 0);
     }
 
-    // How many more names may be on record.
-    pub fn free(&self) -> usize
-        ensures { result + length (held self.now) ≡ room self.now }
+    /// Whether one record more can be made. Each search that is granted makes one, and so does each reservation of a name
+    /// that is not on record.
+    pub fn has_free_record(&self) -> bool
+        ensures { result ≡ has_free (room self.now) (held self.now) }
     {
-        self.most - self.len()
+        self.len() < self.most
     }
 
-    // Puts a name on record with 0, unless it is on record.
+    /// Keeps searches from answering the name: puts it on record with counter 0, unless it is there. A name that is there
+    /// keeps its counter, since a search may have raised it, and is granted even where no record is free.
     pub fn reserve(&mut self, name: &Name) -> Result<(), Refusal>
         ensures rules { settled result (held self.new) ≡ reserved (room self.old) (held self.old) (spelt name.now) }
         ensures room { room self.new ≡ room self.old }
@@ -112,21 +130,40 @@ impl ConflictResolver {
         if self.contains(name) {
             return Ok(());
         }
-        if self.free() == 0 {
+        if !self.has_free_record() {
             return Err(Refusal::NoFreeRecord);
         }
         self.put_on_record(name);
         Ok(())
     }
 
-    // Writes the records to the front of `out`, ascending by the bytes of their names, and answers how many there are.
-    pub fn list(&self, out: &mut [NameRecord]) -> Result<usize, Refusal>
-        ensures { MatchResult result (Ascending (rows self.now) out.old out.new) (λ e. (number_of e ≡ 15) × (length out.old < length (held self.now)) × (out.new ≡ out.old)) }
+    // Copies the records to the front of `out`, oldest first.
+    fn copy_out(&self, out: &mut [NameRecord])
+        requires { length (rows self.now) ≤ length out.old }
+        ensures front { take (length (rows self.now)) out.new ≡ rows self.now }
+        ensures rest { drop (length (rows self.now)) out.new ≡ drop (length (rows self.now)) out.old }
     {
-        self.used.list(out)
+        for i in 0..self.len() {
+            if let Some(record) = self.record_at(i) {
+                out[i] = record;
+            }
+        }
     }
 
-    // The memory, as it is.
+    /// Writes the records to the front of `out`, ascending by the bytes of their names, and answers how many there are.
+    pub fn list(&self, out: &mut [NameRecord]) -> Result<usize, Refusal>
+        ensures { MatchResult result (Listed name_of name_under (rows self.now) out.old out.new) (λ e. (number_of e ≡ 15) × (length out.old < length (held self.now)) × (out.new ≡ out.old)) }
+    {
+        let n = self.len();
+        if out.len() < n {
+            return Err(Refusal::BufferTooShort);
+        }
+        self.copy_out(out);
+        by_name(&mut out[..n]);
+        Ok(n)
+    }
+
+    /// Gives the memory back as it is. It is not emptied: the next use does that.
     pub fn into_slots(self) -> Vec<RecordSlot>
         ensures { result.items ≡ self.used.memory }
     {

@@ -5,7 +5,7 @@ ghost use Rattle.names.specs.Refusals.{number_of};
 ghost use Rattle.keyed_table.specs.declared.slot.Entry.{Entry};
 ghost use Rattle.keyed_table.specs.Laws.{Laws};
 ghost use Rattle.keyed_table.specs.Links.{AllBlank};
-ghost use Rattle.keyed_table.specs.Listed.{Listed};
+ghost use Rattle.keyed_table.specs.Listed.{key_of, Listed};
 ghost use Rattle.keyed_table.specs.Model.{lookup, put, Sought, Distinct};
 ghost use Rattle.keyed_table.specs.Contents.{room, takes};
 
@@ -142,7 +142,7 @@ impl<K: OrderedKey + Copy, V: Copy> Table<K, V> {
     // Writes the entries to the front of `out`, by ascending keys, and answers how many there are. The buffer is the
     // caller's, since a table takes nothing from the heap.
     pub fn list(&self, out: &mut [Entry<K, V>]) -> Result<usize, Refusal>
-        ensures { MatchResult result (Listed K.under self.now.entries out.old out.new) (λ e. (number_of e ≡ 15) × (length out.old < length self.now.entries) × (out.new ≡ out.old)) }
+        ensures { MatchResult result (Listed key_of K.under self.now.entries out.old out.new) (λ e. (number_of e ≡ 15) × (length out.old < length self.now.entries) × (out.new ≡ out.old)) }
     {
         let n = self.len;
         if out.len() < n {

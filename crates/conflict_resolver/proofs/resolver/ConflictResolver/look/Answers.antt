@@ -1,9 +1,9 @@
-use Rattle.std.proofs.Common.{◌+◌, length, sym, ap, ◌∙◌, arith}
+use Rattle.std.proofs.Common.{◌+◌, sym, ap, ◌∙◌, arith}
 use Rattle.names.specs.Spelt.{spelt}
 use Rattle.conflict_resolver.specs.Held.{held}
 use Rattle.conflict_resolver.specs.Rules.{next, done, granted}
 use Rattle.conflict_resolver.proofs.Looks.{follow_raises, follow_worn, follow_skips, follow_spent, follow_takes}
-use Rattle.conflict_resolver.proofs.Lookups.{length_raised}
+use Rattle.conflict_resolver.proofs.Lookups.{free_raised}
 use Rattle.conflict_resolver.proofs.resolver.ConflictResolver.look.Goals as goal
 
 pub returns-then-counter-ge-HIGHEST_NUMBER-clause-follows : goal.returns-then-counter-ge-HIGHEST_NUMBER-clause-follows
@@ -19,7 +19,7 @@ returns-in-Some-clause-follows g c p =
 pub returns-in-Some-clause-going : goal.returns-in-Some-clause-going
 returns-in-Some-clause-going g c =
     let raise = c.raise.ensures in
-    (omega arith, omega (arith, c.if-counter-ge-HIGHEST_NUMBER.false), omega (arith, c.requires.free, ap length raise.records, length_raised (held c.args.self.now) (spelt c.args.candidate.now), raise.room))
+    (omega arith, omega (arith, c.if-counter-ge-HIGHEST_NUMBER.false), free_raised (held c.args.self.now) (held c.raise.new.self) (spelt c.args.candidate.now) _ _ raise.records raise.room c.requires.free)
 
 pub returns-then-k-ge-HIGHEST_NUMBER-clause-follows : goal.returns-then-k-ge-HIGHEST_NUMBER-clause-follows
 returns-then-k-ge-HIGHEST_NUMBER-clause-follows g c p =

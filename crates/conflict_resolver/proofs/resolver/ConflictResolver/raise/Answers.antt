@@ -1,12 +1,12 @@
 use Rattle.std.proofs.Common.{map, ap, ◌∙◌}
-use Rattle.conflict_resolver.specs.Held.{rows}
-use Rattle.conflict_resolver.specs.Rows.{record_of}
+use Rattle.conflict_resolver.specs.Held.{entries_of}
+use Rattle.conflict_resolver.specs.Rows.{record_in}
 use Rattle.conflict_resolver.proofs.Rows.{put_raised}
 use Rattle.conflict_resolver.proofs.resolver.ConflictResolver.raise.Goals as goal
 
 pub returns : goal.returns
 returns c = record {
-  records = ap (map record_of) c.store.ensures.rows ∙ put_raised (rows c.args.self.now) c.args.name.now c.args.counter c.requires.recorded;
+  records = ap (map record_in) c.store.ensures.entries ∙ put_raised (entries_of c.args.self.now) c.args.name.now c.args.counter c.requires.recorded;
   room = c.store.ensures.room;
   slots = c.store.ensures.slots;
 }

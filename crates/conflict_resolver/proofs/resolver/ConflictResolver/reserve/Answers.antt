@@ -1,4 +1,4 @@
-use Rattle.std.proofs.Common.{sym, refl, ap, ◌∙◌, arith}
+use Rattle.std.proofs.Common.{sym, refl, ap, ◌∙◌}
 use Rattle.names.specs.Spelt.{spelt}
 use Rattle.conflict_resolver.specs.Held.{held, room}
 use Rattle.conflict_resolver.specs.Rules.{made}
@@ -19,19 +19,19 @@ returns-then-contains c = record {
   slots = refl;
 }
 
-pub returns-then-free-eq0 : goal.returns-then-free-eq0
-returns-then-free-eq0 c = record {
-  rules = reserve_full (room c.args.self.now) (held c.args.self.now) (spelt c.args.name.now) (sym c.if-not-is_base.ensures) (none_from _ (sym c.if-contains.ensures)) (omega arith);
+pub returns-then-not-has_free_record : goal.returns-then-not-has_free_record
+returns-then-not-has_free_record c = record {
+  rules = reserve_full (room c.args.self.now) (held c.args.self.now) (spelt c.args.name.now) (sym c.if-not-is_base.ensures) (none_from _ (sym c.if-contains.ensures)) (sym c.if-not-has_free_record.ensures);
   room = refl;
   slots = refl;
 }
 
 pub put_on_record-requires : goal.put_on_record-requires
-put_on_record-requires c = record { unrecorded = none_from _ (sym c.if-contains.ensures); free = omega arith }
+put_on_record-requires c = record { unrecorded = none_from _ (sym c.if-contains.ensures); free = sym c.if-not-has_free_record.ensures }
 
 pub returns : goal.returns
 returns c = record {
-  rules = ap made c.put_on_record.ensures.records ∙ reserve_new (room c.args.self.now) (held c.args.self.now) (spelt c.args.name.now) (sym c.if-not-is_base.ensures) (none_from _ (sym c.if-contains.ensures)) (omega arith);
+  rules = ap made c.put_on_record.ensures.records ∙ reserve_new (room c.args.self.now) (held c.args.self.now) (spelt c.args.name.now) (sym c.if-not-is_base.ensures) (none_from _ (sym c.if-contains.ensures)) (sym c.if-not-has_free_record.ensures);
   room = c.put_on_record.ensures.room;
   slots = c.put_on_record.ensures.slots;
 }

@@ -7,5 +7,5 @@ invariant_of-self-clause-within c = let r = c.args.self.now in within_put r.used
 pub invariant_of-self-clause-once : goal.invariant_of-self-clause-once
 invariant_of-self-clause-once c = let r = c.args.self.now in once_put r.used r.most r.fits c.args.name.now c.args.counter _ _ c.requires c.insert.ensures.result c.insert.ensures.entries r.once
 
-pub returns-clause-rows : goal.returns-clause-rows
-returns-clause-rows c = let r = c.args.self.now in rows_put r.used r.most r.fits c.args.name.now c.args.counter _ _ c.requires c.insert.ensures.result c.insert.ensures.entries
+pub returns-clause-entries : goal.returns-clause-entries
+returns-clause-entries c = let r = c.args.self.now in rows_put r.used r.most r.fits c.args.name.now c.args.counter _ _ c.requires c.insert.ensures.result c.insert.ensures.entries

@@ -1,8 +1,11 @@
+use Rattle.std.proofs.Common.{ap, ◌∙◌}
 use Rattle.std.proofs.lemmas.Result.{err_from_is_err_and}
+use Rattle.names.specs.Spelt.{spelt}
+use Rattle.chunk_tables.specs.View.{chunk_of}
+use Rattle.conflict_resolver.specs.Held.{held, room}
+use Rattle.conflict_resolver.specs.Rules.{searched}
 use Rattle.policies.specs.File.{file_vetoes}
 use Rattle.renamer.specs.State.{chunk_in, session_of}
-use Rattle.names.specs.Spelt.{spelt}
-use Rattle.conflict_resolver.specs.Held.{held, room}
 use Rattle.renamer.proofs.Endings.{long_search}
 use Rattle.renamer.proofs.Staying.{over_search}
 use Rattle.renamer.proofs.renamer.Renamer.create_conflictless_name.Goals as goal
@@ -16,4 +19,6 @@ returns-in_err-hint-clause-rules c =
 pub invariant_of-self-clause-opened : goal.invariant_of-self-clause-opened
 invariant_of-self-clause-opened c =
     let r = c.args.self.now in
-    over_search (chunk_in r) (session_of r) r.opened (file_vetoes (chunk_in r)) (spelt c.in_ok-hint.hint) (room r.resolver) c.resolve_helper.result (held c.resolve_helper.new.resolver) r.limit c.resolve_helper.ensures.rules
+    let h = spelt c.in_ok-hint.hint in
+    let sought = c.resolve.ensures.follows_the_rules ∙ ap (λ k. searched (file_vetoes (chunk_of k)) h (room r.resolver) (held r.resolver)) (c.file-policy.ensures ∙ r.of_the_chunk) in
+    over_search (chunk_in r) (session_of r) r.opened (file_vetoes (chunk_in r)) h (room r.resolver) c.resolve.result (held c.resolve.new.self) r.limit sought
