@@ -9,7 +9,7 @@ use Rattle.chunk_tables.specs.declared.parts.ModuleKind.TheVariants.{Normal, Ext
 use Rattle.chunk_tables.specs.Formats.{word_of, code_of}
 use Rattle.chunk_tables.specs.Lists.{maybe}
 use Rattle.chunk_tables.specs.Model.{Module, OtherChunk}
-use Rattle.chunk_faults.specs.declared.sizes.MemorySizes.{MemorySizes}
+use Rattle.session_memory.specs.declared.sizes.MemorySizes.{MemorySizes}
 use Rattle.chunk_text.specs.declared.fault.Fault.{Fault}
 use Rattle.chunk_text.specs.declared.fault.Fault.TheVariants.{WrongWords, NoSuchWord}
 use Rattle.chunk_text.specs.Gives.{◌>>=◌}

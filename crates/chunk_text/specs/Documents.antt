@@ -3,7 +3,7 @@ use Rattle.std.specs.Prelude.{ℕ, suc, Bool, cond, ◌++◌, List, [], ◌∷�
 use Rattle.std.specs.List.{list_any}
 use Rattle.std.specs.Option.{unwrap_or}
 use Rattle.std.specs.Str.{bytes_eq}
-use Rattle.chunk_faults.specs.declared.sizes.MemorySizes.{MemorySizes}
+use Rattle.session_memory.specs.declared.sizes.MemorySizes.{MemorySizes}
 use Rattle.chunk_tables.specs.Lists.{maybe}
 use Rattle.chunk_tables.specs.Model.{Module, Chunk}
 use Rattle.line_text.specs.Cut.{trimmed}

@@ -6,11 +6,11 @@ ghost use Rattle.chunk_text.specs.ChunkRows.{format_code, sizes_in, memory_row, 
 
 use crate::fault::{Fault, ReadError};
 use crate::words::{add_each, either, number_in, symbol_in};
-use chunk_faults::sizes::MemorySizes;
 use chunk_tables::chunk::{EntrySymbol, Module, OtherChunk};
 use chunk_tables::format::Format;
 use chunk_tables::parts::ModuleKind;
 use keys::refs::ChunkIdx;
+use session_memory::sizes::MemorySizes;
 use std::alloc::Global;
 
 const CJS: &[u8] = b"cjs";

@@ -6,10 +6,10 @@ ghost use Rattle.chunk_text.specs.Seen.{draft_of, document_of};
 
 use crate::draft::Draft;
 use crate::fault::{DocumentError, Fault};
-use chunk_faults::sizes::MemorySizes;
 use chunk_tables::chunk::Chunk;
 use line_text::cut::trim_front;
 use names::limits::MOST_RECORDS;
+use session_memory::sizes::MemorySizes;
 use std::alloc::Global;
 
 const SEPARATOR: &[u8] = b"---";

@@ -12,9 +12,9 @@ use crate::fault::{Fault, ReadError};
 use crate::module_lines::read_module_line;
 use crate::verbs::{InsideVerb, OutsideVerb, inside_verb, outside_verb};
 use crate::words::{has_empty_word, no_word, once, only_number, only_word, words_of};
-use chunk_faults::sizes::MemorySizes;
 use chunk_tables::chunk::{Chunk, Module};
 use line_text::cut::trim_front;
+use session_memory::sizes::MemorySizes;
 use std::alloc::Global;
 
 // The format, the number of records and the room, where these were given; the module whose end has not come yet; and the

@@ -1,18 +1,10 @@
-use chunk_checks::check_chunk;
-use chunk_faults::sizes::MemorySizes;
+use chunk_checks::checked::CheckedChunk;
 use chunk_text::document::read_document;
-use names::refusal::Refusal;
+use session_memory::sizes::MemorySizes;
 use std::test::Fail;
 
-const AMPLE: MemorySizes = MemorySizes {
-    records: 4096,
-    names: 16384,
-    inner: 16384,
-    marks: 256,
-    helpers: 0,
-};
-
-// The number that a chunk is refused with whose one module has so many rows, all alike, behind its root and a binding.
+// The number that a chunk is refused with whose one module has so many rows, all alike, behind its root and a binding. There
+// is memory enough for it, so that only the limits can be exceeded.
 fn refusal_of(rt: &HostRuntime, row: &[u8], count: usize) -> Result<Option<u8>, Fail> {
     let heap = rt.alloc();
     let mut lines: Vec<&[u8]> = Vec::new(heap);
@@ -25,10 +17,11 @@ fn refusal_of(rt: &HostRuntime, row: &[u8], count: usize) -> Result<Option<u8>, 
     }
     lines.push(b"end")?;
     let document = read_document(heap, &lines).map_err(|_| Fail::new("a document without faults"))?;
+    let sizes = MemorySizes::needed_by(&document.chunk);
     Ok(
-        check_chunk(heap, &document.chunk, &AMPLE)
+        CheckedChunk::check(heap, document.chunk, &sizes)
             .err()
-            .map(Refusal::number),
+            .map(|refused| refused.refusal.number()),
     )
 }
 

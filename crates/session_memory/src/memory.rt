@@ -31,7 +31,7 @@ pub struct Memory {
 }
 
 impl Memory {
-    /// Memory of these sizes, with nothing in it.
+    /// Memory of these sizes. A session empties what it is given, so only the sizes count.
     pub fn make(heap: Global, sizes: MemorySizes) -> Result<Memory, AllocError>
         ensures { IfOk result (λ m. sizes_of m ≡ sizes) }
     {

@@ -12,6 +12,7 @@ use names::refusal::Refusal;
 use row_checks::numbers::{is_module, strays};
 use row_checks::rows::{check_rows, refuse_if};
 
+/// Refuses a chunk whose format's code is none. The code is a number in the tables, since a document may have any.
 pub fn check_format(chunk: &Chunk) -> Result<(), Refusal>
     ensures { told result ≡ least (format_tests (chunk_of chunk.now)) }
 {
@@ -54,7 +55,9 @@ fn check_module(chunk: &Chunk, number: usize, module: &Module) -> Result<(), Ref
     refuse_if(strays, Refusal::OutOfRange)
 }
 
-// Where there is no module the runtime is refused by itself.
+/// Refuses the first module of which a symbol that it names in its own record is none of its symbols, or a runtime that is
+/// no module. The runtime is the chunk's and not a module's, so it is asked for once, at the first module, and where there
+/// is none by itself.
 pub fn check_modules(chunk: &Chunk) -> Result<(), Refusal>
     ensures { told result ≡ first_found least (module_rows (chunk_of chunk.now) (chunk_of chunk.now).modules) }
 {

@@ -55,6 +55,8 @@ fn check_module_scopes(module: &Module) -> Result<(), Refusal>
     )
 }
 
+/// Refuses the first scope whose parent is no scope of its module, or does not have a smaller number than its own: so every
+/// walk outward ends at the root. An external module, of which nothing is printed here, has a root alone.
 pub fn check_scopes(chunk: &Chunk) -> Result<(), Refusal>
     ensures { told result ≡ first_found least (flat_map scope_rows (chunk_of chunk.now).modules) }
 {

@@ -5,7 +5,7 @@ use Rattle.chunk_tables.specs.declared.chunk.EntrySymbol.{EntrySymbol}
 use Rattle.chunk_tables.specs.declared.parts.ModuleKind.{ModuleKind}
 use Rattle.chunk_tables.specs.declared.parts.ModuleKind.TheVariants.{Normal, External}
 use Rattle.chunk_tables.specs.Model.{OtherChunk}
-use Rattle.chunk_faults.specs.declared.sizes.MemorySizes.{MemorySizes}
+use Rattle.session_memory.specs.declared.sizes.MemorySizes.{MemorySizes}
 use Rattle.chunk_text.specs.Words.{Word, number_in, symbol_in, each}
 use Rattle.chunk_text.specs.ChunkRows.{format_code, memory_row, kind_in, empty_module, module_row, entry_row, other_row}
 use Rattle.text_laws.specs.Writable.{IsNumber, IsWord, IsSymbol, WritableKind, WritableOther, WritableSizes}

@@ -1,6 +1,6 @@
 -- A whole document, read line by line. Assumes nothing.
 use Rattle.std.proofs.Common.{◌≡◌, ℕ, ◌≤◌, [], ◌∷◌, length, Some, None, Option, Ok, codes, decimal, IfSome, refl, ap}
-use Rattle.chunk_faults.specs.declared.sizes.MemorySizes.{MemorySizes}
+use Rattle.session_memory.specs.declared.sizes.MemorySizes.{MemorySizes}
 use Rattle.chunk_text.specs.Gives.{◌>>=◌}
 use Rattle.chunk_text.specs.Documents.{Draft, Document, empty_draft, empty_chunk, finished, document}
 use Rattle.text_laws.specs.Writable.{IsNumber, WritableSizes, Writable}

@@ -6,7 +6,7 @@ use Rattle.chunk_tables.specs.declared.parts.ModuleKind.{ModuleKind}
 use Rattle.chunk_tables.specs.declared.parts.ModuleKind.TheVariants.{Normal, External}
 use Rattle.chunk_tables.specs.declared.parts.Reference.{Reference}
 use Rattle.chunk_tables.specs.Model.{Symbol, Unresolved, Module, OtherChunk, Chunk}
-use Rattle.chunk_faults.specs.declared.sizes.MemorySizes.{MemorySizes}
+use Rattle.session_memory.specs.declared.sizes.MemorySizes.{MemorySizes}
 use Rattle.chunk_text.specs.Words.{Word, is_nil}
 use Rattle.chunk_text.specs.Documents.{Document}
 

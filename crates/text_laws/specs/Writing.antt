@@ -9,7 +9,7 @@ use Rattle.chunk_tables.specs.declared.parts.Reference.{Reference}
 use Rattle.chunk_tables.specs.Formats.{of_code, word_of}
 use Rattle.chunk_tables.specs.Lists.{maybe}
 use Rattle.chunk_tables.specs.Model.{Symbol, Unresolved, Statement, Module, OtherChunk, Chunk}
-use Rattle.chunk_faults.specs.declared.sizes.MemorySizes.{MemorySizes}
+use Rattle.session_memory.specs.declared.sizes.MemorySizes.{MemorySizes}
 use Rattle.chunk_text.specs.Words.{Word}
 use Rattle.chunk_text.specs.Documents.{Document}
 
