@@ -7,8 +7,8 @@ use Rattle.chunk_text.specs.declared.fault.Fault.{Fault}
 use Rattle.chunk_text.specs.Gives.{◌>>=◌}
 use Rattle.chunk_text.specs.Words.{Word, is_nil, words}
 use Rattle.chunk_text.specs.Documents.{Draft, spoken_line, worded_line, trimmed_line, read_line, read_lines, numbered}
-use Rattle.text_laws.specs.Writable.{IsWord}
-use Rattle.text_laws.specs.Writing.{Line, line}
+use Rattle.chunk_text.specs.Writable.{IsWord}
+use Rattle.chunk_text.specs.Writing.{Line, line}
 
 -- each of these is a word
 abbrev pub AreWords : List Word → Type 0

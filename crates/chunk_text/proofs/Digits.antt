@@ -6,7 +6,7 @@ use Rattle.std.proofs.lemmas.Fmt.{decimal_by_steps}
 use Rattle.std.proofs.lemmas.List.Folds.{list_all-append}
 use Rattle.line_text.specs.Numerals.{is_digit, read_on, numeral}
 use Rattle.chunk_text.specs.Words.{is_nil, number_in}
-use Rattle.text_laws.specs.Writable.{IsNumber, IsWord}
+use Rattle.chunk_text.specs.Writable.{IsNumber, IsWord}
 
 -- the digits of n
 pub record AreDigits (n : ℕ) (ds : List ℕ) : Type 0 where

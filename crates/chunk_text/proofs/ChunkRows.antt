@@ -8,12 +8,12 @@ use Rattle.chunk_tables.specs.Model.{OtherChunk}
 use Rattle.chunk_faults.specs.declared.sizes.MemorySizes.{MemorySizes}
 use Rattle.chunk_text.specs.Words.{Word, number_in, symbol_in, each}
 use Rattle.chunk_text.specs.ChunkRows.{format_code, memory_row, kind_in, empty_module, module_row, entry_row, other_row}
-use Rattle.text_laws.specs.Writable.{IsNumber, IsWord, IsSymbol, WritableKind, WritableOther, WritableSizes}
-use Rattle.text_laws.specs.Writing.{symbol_word, format_word, kind_word, memory_words_of, entry_words_of, other_words_of}
-use Rattle.text_laws.proofs.Digits.{decimal_word, number_again}
-use Rattle.text_laws.proofs.Lines.{AreWords}
-use Rattle.text_laws.proofs.Rows.{constant, each_again, are_words, marked_words}
-use Rattle.text_laws.proofs.Symbols.{symbol_again, symbol_is_word}
+use Rattle.chunk_text.specs.Writable.{IsNumber, IsWord, IsSymbol, WritableKind, WritableOther, WritableSizes}
+use Rattle.chunk_text.specs.Writing.{symbol_word, format_word, kind_word, memory_words_of, entry_words_of, other_words_of}
+use Rattle.chunk_text.proofs.Digits.{decimal_word, number_again}
+use Rattle.chunk_text.proofs.Lines.{AreWords}
+use Rattle.chunk_text.proofs.ModuleRows.{constant, each_again, are_words, marked_words}
+use Rattle.chunk_text.proofs.Symbols.{symbol_again, symbol_is_word}
 
 -- the word of a format's code is a word, and says the code
 pub format_again : (n : ℕ) → n ≤ 4 → IsWord (format_word n) × (format_code (format_word n) ≡ n)

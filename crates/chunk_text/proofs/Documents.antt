@@ -3,12 +3,12 @@ use Rattle.std.proofs.Common.{◌≡◌, ℕ, ◌≤◌, [], ◌∷◌, length, 
 use Rattle.chunk_faults.specs.declared.sizes.MemorySizes.{MemorySizes}
 use Rattle.chunk_text.specs.Gives.{◌>>=◌}
 use Rattle.chunk_text.specs.Documents.{Draft, Document, empty_draft, empty_chunk, finished, document}
-use Rattle.text_laws.specs.Writable.{IsNumber, WritableSizes, Writable}
-use Rattle.text_laws.specs.Writing.{line, number_line, format_word, memory_words_of, memory_lines, written}
-use Rattle.text_laws.proofs.ChunkRows.{format_again, memory_words, memory_again}
-use Rattle.text_laws.proofs.Chunks.{tables}
-use Rattle.text_laws.proofs.Digits.{decimal_word, number_again}
-use Rattle.text_laws.proofs.Lines.{Leads, none, one, ◌then◌}
+use Rattle.chunk_text.specs.Writable.{IsNumber, WritableSizes, Writable}
+use Rattle.chunk_text.specs.Writing.{line, number_line, format_word, memory_words_of, memory_lines, written}
+use Rattle.chunk_text.proofs.ChunkRows.{format_again, memory_words, memory_again}
+use Rattle.chunk_text.proofs.Chunks.{tables}
+use Rattle.chunk_text.proofs.Digits.{decimal_word, number_again}
+use Rattle.chunk_text.proofs.Lines.{Leads, none, one, ◌then◌}
 
 -- a draft with what the lines in front of the tables give
 abbrev begun : Option ℕ → Option ℕ → Option MemorySizes → Draft

@@ -7,11 +7,11 @@ use Rattle.chunk_text.specs.declared.fault.Fault.{Fault}
 use Rattle.chunk_text.specs.Gives.{◌>>=◌}
 use Rattle.chunk_text.specs.Words.{Word, only_number, adding}
 use Rattle.chunk_text.specs.Documents.{Draft, spoken_line}
-use Rattle.text_laws.specs.Writable.{IsNumber, IsWord}
-use Rattle.text_laws.specs.Writing.{Line, line, mark_lines, number_line, number_lines}
-use Rattle.text_laws.proofs.Digits.{decimal_word, number_again}
-use Rattle.text_laws.proofs.Lines.{AreWords, is_verb, Leads, none, one, ◌then◌}
-use Rattle.text_laws.proofs.Rows.{are_words, adding_again}
+use Rattle.chunk_text.specs.Writable.{IsNumber, IsWord}
+use Rattle.chunk_text.specs.Writing.{Line, line, mark_lines, number_line, number_lines}
+use Rattle.chunk_text.proofs.Digits.{decimal_word, number_again}
+use Rattle.chunk_text.proofs.Lines.{AreWords, is_verb, Leads, none, one, ◌then◌}
+use Rattle.chunk_text.proofs.ModuleRows.{are_words, adding_again}
 
 -- rows that stand one after another, each adding itself
 pub rows : {A : Type 0} (at : List A → Draft) (text : A → List Line) (P : A → Type 0) (each : (front : List A) (x : A) → P x → Leads (at front) (text x) (at (front ++ x ∷ []))) (front xs : List A) → All P xs → Leads (at front) (flat_map text xs) (at (front ++ xs))

@@ -8,13 +8,13 @@ use Rattle.chunk_text.specs.Words.{only_number}
 use Rattle.chunk_text.specs.Rows.{is_first, scope_row, symbol_row, unresolved_row, statement_row}
 use Rattle.chunk_text.specs.ChunkRows.{empty_module}
 use Rattle.chunk_text.specs.Documents.{Draft}
-use Rattle.text_laws.specs.Writable.{IsNumber, IsSymbol, WritableSymbol, WritableUnresolved, WritableReference, WritableModule}
-use Rattle.text_laws.specs.Writing.{symbol_word, symbol_words_of, reference_line, statement_words_of, inner_lines}
-use Rattle.text_laws.proofs.Digits.{decimal_word, number_again}
-use Rattle.text_laws.proofs.Lines.{Leads, one, ◌then◌}
-use Rattle.text_laws.proofs.Parts.{row_lines, marks, number_of, rows_of, numbers_of}
-use Rattle.text_laws.proofs.Rows.{scope_again, symbol_words, symbol_row_again, unresolved_again, reference_again, member_again, statement_words, statement_again}
-use Rattle.text_laws.proofs.Symbols.{symbol_is_word}
+use Rattle.chunk_text.specs.Writable.{IsNumber, IsSymbol, WritableSymbol, WritableUnresolved, WritableReference, WritableModule}
+use Rattle.chunk_text.specs.Writing.{symbol_word, symbol_words_of, reference_line, statement_words_of, inner_lines}
+use Rattle.chunk_text.proofs.Digits.{decimal_word, number_again}
+use Rattle.chunk_text.proofs.Lines.{Leads, one, ◌then◌}
+use Rattle.chunk_text.proofs.Parts.{row_lines, marks, number_of, rows_of, numbers_of}
+use Rattle.chunk_text.proofs.ModuleRows.{scope_again, symbol_words, symbol_row_again, unresolved_again, reference_again, member_again, statement_words, statement_again}
+use Rattle.chunk_text.proofs.Symbols.{symbol_is_word}
 
 -- a draft whose open module is M
 abbrev pub within : Draft → Module → Draft

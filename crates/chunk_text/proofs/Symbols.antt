@@ -8,9 +8,9 @@ use Rattle.keys.specs.declared.refs.SymbolRef.{SymbolRef}
 use Rattle.line_text.specs.Cut.{until, past}
 use Rattle.line_text.specs.Numerals.{numeral}
 use Rattle.chunk_text.specs.Words.{Word, symbol_in}
-use Rattle.text_laws.specs.Writable.{IsWord, IsSymbol}
-use Rattle.text_laws.specs.Writing.{symbol_word}
-use Rattle.text_laws.proofs.Digits.{filled_before, absent, decimal_word, numeral-decimal}
+use Rattle.chunk_text.specs.Writable.{IsWord, IsSymbol}
+use Rattle.chunk_text.specs.Writing.{symbol_word}
+use Rattle.chunk_text.proofs.Digits.{filled_before, absent, decimal_word, numeral-decimal}
 
 -- where a byte first stands
 place_of : (c : ℕ) (ds cs : List ℕ) → list_any (λ b. b == c) ds ≡ false → position_or_len (λ x. x == c) (ds ++ c ∷ cs) ≡ length ds

@@ -6,14 +6,14 @@ use Rattle.chunk_text.specs.Gives.{◌>>=◌}
 use Rattle.chunk_text.specs.Words.{number_in, symbol_in}
 use Rattle.chunk_text.specs.ChunkRows.{entry_row, other_row}
 use Rattle.chunk_text.specs.Documents.{Draft, empty_chunk}
-use Rattle.text_laws.specs.Writable.{IsNumber, IsWord, IsSymbol, WritableModule, WritableOther, WritableChunk}
-use Rattle.text_laws.specs.Writing.{symbol_word, kind_word, entry_words_of, other_words_of, module_lines, chunk_lines}
-use Rattle.text_laws.proofs.ChunkRows.{module_words, module_again, entry_words, entry_again, other_words, other_again}
-use Rattle.text_laws.proofs.Digits.{decimal_word, number_again}
-use Rattle.text_laws.proofs.Lines.{Leads, one, ◌then◌}
-use Rattle.text_laws.proofs.Modules.{within, inner}
-use Rattle.text_laws.proofs.Parts.{rows, number_of, rows_of, list_of}
-use Rattle.text_laws.proofs.Symbols.{symbol_again, symbol_is_word}
+use Rattle.chunk_text.specs.Writable.{IsNumber, IsWord, IsSymbol, WritableModule, WritableOther, WritableChunk}
+use Rattle.chunk_text.specs.Writing.{symbol_word, kind_word, entry_words_of, other_words_of, module_lines, chunk_lines}
+use Rattle.chunk_text.proofs.ChunkRows.{module_words, module_again, entry_words, entry_again, other_words, other_again}
+use Rattle.chunk_text.proofs.Digits.{decimal_word, number_again}
+use Rattle.chunk_text.proofs.Lines.{Leads, one, ◌then◌}
+use Rattle.chunk_text.proofs.Modules.{within, inner}
+use Rattle.chunk_text.proofs.Parts.{rows, number_of, rows_of, list_of}
+use Rattle.chunk_text.proofs.Symbols.{symbol_again, symbol_is_word}
 
 -- a draft with no open module, and with C
 abbrev pub outside : Draft → Chunk → Draft

@@ -11,11 +11,11 @@ use Rattle.chunk_text.specs.declared.fault.Fault.{Fault}
 use Rattle.chunk_text.specs.Gives.{◌>>=◌}
 use Rattle.chunk_text.specs.Words.{Word, is_nil, number_in, symbol_in, either, each, adding}
 use Rattle.chunk_text.specs.Rows.{scope_row, links_in, symbol_row, unresolved_row, reference_row, member_row, statement_row, is_external, past_mark}
-use Rattle.text_laws.specs.Writable.{IsNumber, IsWord, IsSymbol, WritableSymbol, WritableUnresolved}
-use Rattle.text_laws.specs.Writing.{symbol_word, keyed, symbol_words_of, statement_words_of}
-use Rattle.text_laws.proofs.Digits.{absent, decimal_word, number_again}
-use Rattle.text_laws.proofs.Lines.{AreWords}
-use Rattle.text_laws.proofs.Symbols.{symbol_again, symbol_is_word}
+use Rattle.chunk_text.specs.Writable.{IsNumber, IsWord, IsSymbol, WritableSymbol, WritableUnresolved}
+use Rattle.chunk_text.specs.Writing.{symbol_word, keyed, symbol_words_of, statement_words_of}
+use Rattle.chunk_text.proofs.Digits.{absent, decimal_word, number_again}
+use Rattle.chunk_text.proofs.Lines.{AreWords}
+use Rattle.chunk_text.proofs.Symbols.{symbol_again, symbol_is_word}
 
 -- a word without the byte c is no word that begins with c
 differs : (w : Word) (c : ℕ) (cs : Word) → list_any (λ b. b == c) w ≡ false → bytes_eq w (c ∷ cs) ≡ false
