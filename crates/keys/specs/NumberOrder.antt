@@ -1,4 +1,4 @@
--- The order of keys by number. Assumes nothing.
+-- That the orders of symbols and of chunks are strict. Assumes nothing.
 use Rattle.std.proofs.Common.{rules}
 use Rattle.keys.specs.Order.{Strict}
 use Rattle.keys.specs.Refs.{symbol_under, chunk_under}

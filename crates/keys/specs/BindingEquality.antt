@@ -1,4 +1,4 @@
--- Equal scopes and equal names are equal bindings. Assumes nothing.
+-- That bindings which agree in scope and name are one value. Assumes nothing.
 use Rattle.std.specs.Prelude.{◌≡◌, Decides, ◌==◌}
 use Rattle.std.proofs.Common.{ap}
 use Rattle.std.proofs.lemmas.Bool.Decides.{Decides-eqb, Decides-and, Decides-like}

@@ -1,4 +1,4 @@
--- The order of names. Assumes nothing.
+-- That the order of names is strict, and is the one of `<`. Assumes nothing.
 use Rattle.std.specs.Prelude.{◌≡◌, ℕ, true, false, List, [], ◌∷◌, refl}
 use Rattle.std.specs.Ordering.{is_lt, nat_cmp, on, as_partial_cmp, partial_lt}
 use Rattle.std.specs.Cmp.Lexicographic.{slice_cmp}
