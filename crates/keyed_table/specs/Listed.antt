@@ -9,7 +9,7 @@ use Rattle.keyed_table.specs.declared.slot.Entry.{Entry}
 abbrev pub Sorted : {K V : Type 0} → (K → K → Bool) → List (Entry K V) → ℕ → Type 0
 Sorted under es n = AllAdjacentBelow (λ x y. under y.key x.key ≡ false) es n
 
--- the entries, by strictly ascending keys, in the first n places of a list that is otherwise as it was
+-- the first n places hold the entries, each once and from the lowest key to the highest; the other places are as they were
 pub record Listed {K V : Type 0} (under : K → K → Bool) (es was is : List (Entry K V)) (n : ℕ) : Type 0 where
   pub count : n ≡ length es
   pub shuffled : IsPermutation es (take n is)
