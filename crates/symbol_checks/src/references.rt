@@ -17,6 +17,7 @@ use row_checks::rows::{check_rows, refuse_if};
 use std::alloc::Global;
 
 impl<'c, 'm> ModuleCheck<'c, 'm> {
+    // Whether the reference names a row that there is not.
     fn reference_strays(&self, reference: &Reference) -> bool
         ensures { result ≡ reference_strays (chunk_of self.now.chunk.now) (module_of self.now.indexed.module.now) reference.now }
     {
@@ -26,7 +27,13 @@ impl<'c, 'm> ModuleCheck<'c, 'm> {
             || dangles(self.chunk, reference.resolved)
     }
 
-    // Whether the target is a facade, or not the nearest binding of its name.
+    // Whether the reference could not stand so in a source. What a name means is decided by the scopes, outward from where it
+    // stands, and a facade is bound in none. In
+    //
+    //     const now = 1;
+    //     const later = (now) => now;
+    //
+    // a reference in the function with the first `now` for its target would be such.
     fn misses_target(&self, reference: &Reference, target: &Symbol) -> bool
         ensures { result ≡ misses_target (module_of self.now.indexed.module.now) reference.now (symbol_of target.now) }
     {
@@ -37,6 +44,8 @@ impl<'c, 'm> ModuleCheck<'c, 'm> {
                 .is_none_or(|nearest| reference.target as usize != nearest)
     }
 
+    // Whether the reference is resolved to a member, and its target cannot have members to be resolved. Only an import has. In a
+    // wrapped module it has to be printed elsewhere: were it printed inside the function, it could capture the member's name.
     fn is_stray_member(&self, reference: &Reference, target: &Symbol) -> bool
         ensures { result ≡ stray_member (module_of self.now.indexed.module.now) reference.now (symbol_of target.now) }
     {
@@ -46,6 +55,7 @@ impl<'c, 'm> ModuleCheck<'c, 'm> {
                 || module.wrapped && !is_elsewhere(target))
     }
 
+    // Whether the reference means something else than its scopes say.
     fn is_bad_reference(&self, reference: &Reference) -> bool
         ensures { result ≡ bad_reference (module_of self.now.indexed.module.now) reference.now }
     {
@@ -56,7 +66,7 @@ impl<'c, 'm> ModuleCheck<'c, 'm> {
         self.misses_target(reference, target) || self.is_stray_member(reference, target)
     }
 
-    // Refuses the reference with the smallest number of a test that holds.
+    // A number that leads nowhere comes before a meaning that is wrong.
     fn check_reference(&self, reference: &Reference) -> Result<(), Refusal>
         ensures { told result ≡ least (reference_tests (chunk_of self.now.chunk.now) (module_of self.now.indexed.module.now) reference.now) }
     {
@@ -65,6 +75,7 @@ impl<'c, 'm> ModuleCheck<'c, 'm> {
     }
 }
 
+// Refuses the first faulty reference of the module.
 fn check_module_references(heap: Global, chunk: &Chunk, module: &Module) -> Result<(), Refusal>
     ensures { told result ≡ first_found least (reference_rows (chunk_of chunk.now) (module_of «module».now)) }
 {
@@ -75,6 +86,9 @@ fn check_module_references(heap: Global, chunk: &Chunk, module: &Module) -> Resu
     )
 }
 
+/// Refuses the first faulty reference, module by module. It is checked in all modules, also in those that the chunk does not
+/// join: whether a table is right does not depend on what it is used for. The heap is for the index of each module, and without
+/// room there the check takes longer and answers the same.
 pub fn check_references(heap: Global, chunk: &Chunk) -> Result<(), Refusal>
     ensures { told result ≡ first_found least (flat_map (reference_rows (chunk_of chunk.now)) (chunk_of chunk.now).modules) }
 {
