@@ -1,4 +1,4 @@
--- What has a text: numbers fit 32 bits, and names stand as words. Assumes nothing.
+-- Which tables have a text: those whose numbers fit 32 bits, and whose names can stand as words. Assumes nothing.
 use Rattle.std.specs.Prelude.{◌≡◌, ℕ, ◌<◌, ◌≤◌, ◌^◌, false, ◌==◌, All, IfSome}
 use Rattle.std.specs.List.{list_any}
 use Rattle.keys.specs.declared.refs.SymbolRef.{SymbolRef}
@@ -10,6 +10,7 @@ use Rattle.chunk_faults.specs.declared.sizes.MemorySizes.{MemorySizes}
 use Rattle.chunk_text.specs.Words.{Word, is_nil}
 use Rattle.chunk_text.specs.Documents.{Document}
 
+-- a number that can be written
 abbrev pub IsNumber : ℕ → Type 0
 IsNumber n = n < 2 ^ 32
 
@@ -18,6 +19,7 @@ pub record IsWord (w : Word) : Type 0 where
   pub filled : is_nil w ≡ false
   pub spaceless : list_any (λ b. b == 32) w ≡ false
 
+-- a symbol that can be written
 pub record IsSymbol (q : SymbolRef) : Type 0 where
   pub owner : IsNumber q.owner
   pub symbol : IsNumber q.symbol
