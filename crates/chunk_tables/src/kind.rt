@@ -21,8 +21,8 @@ pub enum RootBindingKind {
     /// ```
     Authored,
     /// From the bundler, which made the binding and prints references to it in whatever scope needs one, where no author looked
-    /// out for it. So it gets no name that an inner scope binds. Here `clock.now` of the source is printed through the namespace
-    /// `import_clock`, which must not be called as the parameter is:
+    /// out for it. So it gets no name that an inner scope binds. Here an imported `now` is printed through the namespace, which
+    /// must not be called as the parameter is:
     ///
     /// ```js
     /// const import_clock$1 = load_clock();
@@ -64,7 +64,7 @@ impl Module {
 
 impl Chunk {
     // Whether the bundler made the symbol: a helper of the runtime, or a facade that stands for nothing that a source names.
-    // The facades of an external module are named as the importing source names them.
+    // What stands for an external module is called as a source calls what it imports from there.
     fn is_synthesized(&self, symbol: SymbolRef) -> bool
         ensures { result ≡ synthesized (chunk_of self.now) symbol }
     {

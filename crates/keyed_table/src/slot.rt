@@ -7,7 +7,9 @@ use keys::key::HashKey;
 /// A key and the value under it, as a table tells them.
 #[derive(Clone, Copy, Default)]
 pub struct Entry<K, V> {
+    /// The key. Two entries of one table never have the same.
     pub key: K,
+    /// What was last put under it.
     pub value: V,
 }
 

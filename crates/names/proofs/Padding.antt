@@ -39,6 +39,6 @@ same_name x y e =
     (λ past. x.padded k past ∙ sym (y.padded k (omega arith)))
     (cases_lt k x.len)))
 
--- equal text is an equal value
+-- names with one text are one value
 pub name_decides : (x y : Name) → Decides (bytes_eq (spelt x) (spelt y)) (x ≡ y)
 name_decides x y = Decides-like (bytes_eq (spelt x) (spelt y)) (same_name x y) (ap spelt) (bytes_eq-Decides (spelt x) (spelt y))

@@ -15,8 +15,8 @@ impl Name {
     /// const now$1 = () => 2; // of page.js, which calls it `now` as well
     /// ```
     ///
-    /// Two bases never meet in one form: no digit is a `$`, so the last `$` tells where the base ends. There is no form of a
-    /// name of more than 100 bytes, and none for 0 or a number above 9,999.
+    /// Two bases never meet in one form: what stands behind its last `$` is the number, and the rest is the base. There is no form
+    /// of a name of more than 100 bytes, and none for 0 or a number above 9,999.
     pub fn numbered(&self, k: u16) -> Option<Name>
         ensures { MatchOption result ((length (spelt self.now) ≤ 100) × Suffix k → ⊥) (λ n. (length (spelt self.now) ≤ 100) × Suffix k × FormOf (spelt self.now) k (spelt n)) }
     {
