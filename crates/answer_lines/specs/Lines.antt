@@ -12,6 +12,7 @@ use Rattle.keyed_table.specs.declared.slot.Entry.{Entry}
 abbrev pub line : List ℕ → List ℕ
 line text = text ++ 10 ∷ []
 
+-- the end of a document's answer
 abbrev pub done_line : List ℕ
 done_line = line (codes "done")
 
@@ -19,6 +20,7 @@ done_line = line (codes "done")
 abbrev pub fault_line : ℕ → List ℕ → List ℕ
 fault_line number words = line (codes "line " ++ decimal number ++ codes ": " ++ words)
 
+-- a refusal, by number and words
 abbrev pub refused_line : Refusal → List ℕ
 refused_line r = line (codes "refused " ++ decimal (number_of r) ++ 32 ∷ words_of r)
 

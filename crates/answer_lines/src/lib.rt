@@ -1,4 +1,4 @@
-// The lines that programs answer. A name need not be UTF-8, so it is written by its bytes.
+// The lines that programs answer. They are bytes, since a name need not be UTF-8.
 #![tactic(auto)]
 
 ghost use Rattle.answer_lines.specs.Lines.{line, done_line, fault_line, refused_line, helper_line};
@@ -18,14 +18,14 @@ mod rows;
 // How a line ends.
 const END: &[u8] = b"\n";
 
-// A name at the end of its line.
+/// The last word of a line, which is a name, and the end of the line. What stands in front of it is the program's own.
 pub fn end_with(name: &Name, out: &mut Vec<u8>) -> Result<(), AllocError>
     ensures { Writes out.old out.new result (line (spelt name.now)) }
 {
     write_each(&[name.as_bytes(), END], out)
 }
 
-// What is wrong with a line of the input.
+/// What is wrong with a line of the input, and which line it is, so that it can be found and mended.
 pub fn fault(number: usize, words: &str, out: &mut Vec<u8>) -> Result<(), AllocError>
     ensures { Writes out.old out.new result (fault_line number words.now) }
 {
@@ -35,6 +35,7 @@ pub fn fault(number: usize, words: &str, out: &mut Vec<u8>) -> Result<(), AllocE
     write_each(&[begin, number, b": ", words.as_bytes(), END], out)
 }
 
+/// A refusal, by its number and its words: programs go by the one, people by the other.
 pub fn refused(refusal: Refusal, out: &mut Vec<u8>) -> Result<(), AllocError>
     ensures { Writes out.old out.new result (refused_line refusal) }
 {
@@ -44,7 +45,7 @@ pub fn refused(refusal: Refusal, out: &mut Vec<u8>) -> Result<(), AllocError>
     write_each(&[begin, number, b" ", refusal.words().as_bytes(), END], out)
 }
 
-// The helper of another chunk.
+/// The name of the helper that requires another chunk.
 pub fn helper(chunk: ChunkIdx, name: &Name, out: &mut Vec<u8>) -> Result<(), AllocError>
     ensures { Writes out.old out.new result (helper_line chunk (spelt name.now)) }
 {
@@ -54,7 +55,7 @@ pub fn helper(chunk: ChunkIdx, name: &Name, out: &mut Vec<u8>) -> Result<(), All
     write_each(&[begin, number, b" ", name.as_bytes(), END], out)
 }
 
-// The end of a document's answer.
+/// The last line of a document's answer. An answer without it was cut off.
 pub fn done(out: &mut Vec<u8>) -> Result<(), AllocError>
     ensures { Writes out.old out.new result done_line }
 {

@@ -1,4 +1,4 @@
-// The rows of listings, a line each.
+// The rows of listings as lines.
 ghost use Rattle.answer_lines.specs.Lines.{name_line, record_line};
 
 use crate::END;
@@ -9,7 +9,7 @@ use keys::refs::SymbolRef;
 use names::name::Name;
 use std::alloc::AllocError;
 
-// The name of a symbol.
+// A symbol by its two numbers, and the name that it was given.
 impl Piece for Entry<SymbolRef, Name> {
     ghost text = { name_line };
 
@@ -26,7 +26,7 @@ impl Piece for Entry<SymbolRef, Name> {
     }
 }
 
-// A name on record, and its counter.
+// A name on record, and its counter behind it.
 impl Piece for Entry<Name, u16> {
     ghost text = { record_line };
 

@@ -4,7 +4,7 @@ use Rattle.std.proofs.lemmas.Bool.{cases_Bool, both_ways}
 use Rattle.names.specs.declared.refusal.Refusal.{Refusal}
 use Rattle.keys.specs.Bindings.{binding_alike}
 use Rattle.keys.specs.declared.binding_key.Binding.{Binding}
-use Rattle.keys.specs.Scoped.{binding_decides}
+use Rattle.keys.specs.BindingEquality.{binding_decides}
 use Rattle.keyed_table.specs.Laws.{Laws}
 use Rattle.keyed_table.specs.Model.{put}
 use Rattle.keyed_table.specs.declared.slot.Entry.{Entry}

@@ -18,7 +18,7 @@ KeyOf y o = (q : Binding) → binds_in q.scope (spelt q.name) y ≡ maybe o fals
 abbrev pub under : List (Entry Binding ℕ) → Binding → Option ℕ
 under ss q = lookup binding_alike ss q
 
--- the key has got the number unless it had one, and each other key has what it had
+-- the key leads to the number now, unless it led to one before; each other key leads to what it did
 abbrev pub Noted : List (Entry Binding ℕ) → Binding → ℕ → List (Entry Binding ℕ) → Type 0
 Noted ss k i ts = (q : Binding) → under ts q ≡ maybe (under ss q) (cond (binding_alike k q) (Some i) None) Some
 

@@ -5,8 +5,7 @@ ghost use Rattle.binding_index.specs.Indexes.{KeyOf, Noted, Finds, Indexes};
 
 use chunk_tables::parts::Symbol;
 use keyed_table::slot::Slot;
-use keyed_table::table::Table;
-use keyed_table::table::methods::laws;
+use keyed_table::table::{Table, laws};
 use keys::binding_key::Binding;
 use names::name::Name;
 use names::refusal::Refusal;

@@ -1,4 +1,4 @@
-// A module with an index of its bindings.
+// A module with an index of its bindings: the same answers as its own walk, without going through all symbols each time.
 #![tactic(auto)]
 
 mod build;

@@ -6,7 +6,7 @@ use Rattle.chunk_tables.specs.Lists.{maybe, place, first_found}
 use Rattle.chunk_tables.specs.Model.{Name, Symbol, Module}
 use Rattle.chunk_tables.specs.Scopes.{enclosing}
 
--- a symbol is a binding of a name
+-- a symbol is a binding of a name: it has the name, and is no facade
 abbrev pub binds : Name → Symbol → Bool
 binds n y = y.bound && bytes_eq y.name n
 
@@ -18,14 +18,14 @@ binds_in s n y = y.scope == s && binds n y
 abbrev pub bound_in : Module → ℕ → Name → Option ℕ
 bound_in M s n = place (binds_in s n) M.symbols
 
--- the nearest binding of a name, from a scope outward, the root's too
+-- what a reference in a scope means by a name: outward, the first scope that binds it decides
 abbrev pub nearest : Module → ℕ → Name → Option ℕ
 nearest M s n = first_found (λ t. bound_in M t n) (enclosing M s)
 
--- some scope of the module binds the name
+-- whether a symbol of the module is a binding of the name, in whatever scope
 abbrev pub bound_anywhere : Module → Name → Bool
 bound_anywhere M n = list_any (binds n) M.symbols
 
--- a symbol of the root that is among the named imports
+-- whether a symbol is declared by an import of the module
 abbrev pub root_import : Module → ℕ → Bool
 root_import M i = maybe (slice_get M.symbols i) false (λ y. (y.scope == 0) && list_any (nat_eq i) M.imports)

@@ -10,23 +10,25 @@ use Rattle.chunk_tables.specs.Lists.{maybe}
 use Rattle.chunk_tables.specs.Links.{canonical}
 use Rattle.chunk_tables.specs.Model.{Module, Chunk}
 
+-- its source is known
 abbrev pub is_normal : ModuleKind → Bool
 is_normal Normal = true
 is_normal (External n) = false
 
--- a facade of the module
+-- whether a number is that of a facade
 abbrev pub facade : Module → ℕ → Bool
 facade M i = maybe (slice_get M.symbols i) false (λ y. not y.bound)
 
--- a facade that has a name of the source: a named import, the default export, or a shim of a missing export
+-- whether a symbol stands for what a source names: an import, the default export, or an export that is missing
 abbrev pub source_facade : Module → ℕ → Bool
 source_facade M i = list_any (nat_eq i) M.imports || (maybe M.default false (nat_eq i) || list_any (nat_eq i) M.shims)
 
--- the bundler makes the helpers of the runtime, and the facades of normal modules that have no name of the source
+-- made by the bundler: the runtime's helpers, and those facades of modules with a source that stand for nothing in it
 abbrev pub synthesized : Chunk → SymbolRef → Bool
 synthesized c q =
     maybe c.runtime false (nat_eq q.owner)
     || maybe (slice_get c.modules q.owner) false (λ M. is_normal M.kind && (facade M q.symbol && not (source_facade M q.symbol)))
 
+-- a symbol's kind is that of the variable that it is
 abbrev pub kind_of : Chunk → SymbolRef → RootBindingKind
 kind_of c q = cond (synthesized c (canonical c q)) Synthesized Authored

@@ -5,7 +5,7 @@ use Rattle.keys.specs.declared.refs.SymbolRef.{SymbolRef}
 use Rattle.chunk_tables.specs.Lists.{maybe}
 use Rattle.chunk_tables.specs.Model.{Symbol, Chunk}
 
--- a symbol by its two numbers, absent where there is none
+-- the symbol that two numbers name; nothing where one of them leads nowhere
 abbrev pub symbol_at : Chunk → SymbolRef → Option Symbol
 symbol_at c q = maybe (slice_get c.modules q.owner) None (λ M. slice_get M.symbols q.symbol)
 
@@ -15,19 +15,20 @@ link_of c q = maybe (symbol_at c q) None (λ y. y.link)
 abbrev pub alias_of : Chunk → SymbolRef → Option SymbolRef
 alias_of c q = maybe (symbol_at c q) None (λ y. y.alias)
 
--- at most n links onward
+-- what is reached by links, and after n of them in any case
 abbrev pub follow : Chunk → ℕ → SymbolRef → SymbolRef
 follow c zero q = q
 follow c (suc n) q = maybe (link_of c q) q (follow c n)
 
--- the end of the chain of links; no chunk has more than 16,384 symbols, so a chain with more links is a circle
+-- the symbol that stands for all that are linked to it. A chunk has at most 16,384 symbols, so whatever has more links than
+-- that behind it is on a circle
 unfoldable pub canonical : Chunk → SymbolRef → SymbolRef
 canonical c q = follow c 16384 q
 
--- the canonical symbol of one that is linked to l
+-- the same of a symbol whose link is l
 unfoldable pub end_after : Chunk → SymbolRef → SymbolRef
 end_after c l = follow c 16383 l
 
--- the canonical symbol, or that of its alias
+-- the symbol whose name is printed: an alias stands for the variable of which the symbol is a property
 abbrev pub printed : Chunk → SymbolRef → SymbolRef
 printed c q = maybe (alias_of c (canonical c q)) (canonical c q) (canonical c)

@@ -1,12 +1,11 @@
--- The tables of a chunk in plain lists. Scopes, symbols and references of a module, modules, and the rows of lists go by
--- their numbers, from 0. Assumes nothing.
+-- The tables of a chunk as plain lists, in which a row is told by its place. Assumes nothing.
 use Rattle.std.specs.Prelude.{ℕ, Bool, List, Option}
 use Rattle.keys.specs.declared.refs.SymbolRef.{SymbolRef}
 use Rattle.chunk_tables.specs.declared.chunk.EntrySymbol.{EntrySymbol}
 use Rattle.chunk_tables.specs.declared.parts.ModuleKind.{ModuleKind}
 use Rattle.chunk_tables.specs.declared.parts.Reference.{Reference}
 
--- a name is its bytes
+-- the bytes of a name
 abbrev pub Name : Type 0
 Name = List ℕ
 
@@ -26,7 +25,7 @@ pub record Statement : Type 0 where
   pub external : Bool
   pub declared : List SymbolRef
 
--- row 0 of the parents is the root's, which has none: it is not read
+-- a scope is told by its parent; the first row is the root's, whose parent nothing reads
 pub record Module : Type 0 where
   pub kind : ModuleKind
   pub order : ℕ

@@ -22,8 +22,15 @@ const EXPORTS: &[u8] = b"exports";
 
 const MODULE: &[u8] = b"module";
 
-// The fixed names that the body of a module can print. Each case has a static list of its own, so none is made on
-// the heap.
+/// The names that the bundler writes into the module's body and cannot change, since they have to mean what the language or the
+/// host has under them. Nothing in the chunk may be called so. One way to print an `import()`:
+///
+/// ```js
+/// import('./chart.js').then(draw); // in the source
+/// Promise.resolve(chart).then(draw); // in the output
+/// ```
+///
+/// Each case has a static list of its own, so none is made on the heap.
 pub fn fixed_names_in_module_body(module: &Module, format: Format) -> &'static [&'static [u8]]
     ensures { map (λ name. name.now) result.now ≡ fixed_names format (module_of «module».now) }
 {
@@ -40,7 +47,15 @@ pub fn fixed_names_in_module_body(module: &Module, format: Format) -> &'static [
     }
 }
 
-// The fixed parameters of the function around a wrapped module, in their order.
+/// The parameters of the function around a wrapped module that the body knows by their names. A parameter hides what the chunk
+/// calls the same, so nothing at its top level may be called so. They are passed by place: `module` comes second and what `this`
+/// is printed as comes third, so a body that uses a later one is given those in front of it as well.
+///
+/// ```js
+/// const require_clock = wrap((exports, module) => {
+///     module.exports = { now: 1 };
+/// });
+/// ```
 pub fn cjs_wrapper_fixed_params(module: &Module) -> &'static [&'static [u8]]
     ensures { map (λ name. name.now) result.now ≡ wrapper_parameters (module_of «module».now) }
 {

@@ -5,16 +5,21 @@ ghost use Rattle.chunk_tables.specs.Formats.{Reads, code_of, of_code};
 
 use std::str::FromStr;
 
-// Each has the code that stands for it in a chunk.
+/// What the script is for its host. Each format has a frame of its own around the modules, and the names that this frame uses are
+/// no symbol's. The number of each stands for it in a chunk.
 #[derive(Clone, Copy, Debug, PartialEq, Eq)]
 pub enum Format {
+    /// A module with `import` and `export`: symbols of external modules are imported by name, with no namespace in between.
     Esm = 1,
+    /// A CommonJS module, which its host hands `exports`, `require`, `module` and the names of its file and folder.
     Cjs = 2,
+    /// A function that is called on the spot, with the external modules as arguments.
     Iife = 3,
+    /// The same for whichever loader there is.
     Umd = 4,
 }
 
-// A code or a word that names no format.
+/// That a code or a word names no format. It holds neither: whoever asked has it.
 #[derive(Clone, Copy, Debug, PartialEq, Eq)]
 pub struct UnknownFormat;
 
@@ -42,7 +47,7 @@ impl TryFrom<u8> for Format {
     }
 }
 
-// The option word of a format is its name in small letters.
+// By the word with which a format is chosen: its name in small letters.
 impl FromStr for Format {
     type Err = UnknownFormat;
 

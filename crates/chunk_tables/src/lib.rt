@@ -1,4 +1,4 @@
-// The tables of a chunk: its modules with their scopes, symbols and references, and what they say before any name is given.
+// The tables of a chunk, as a bundler hands them over, and what can be read off them before any name is given.
 #![tactic(auto)]
 
 pub mod bindings;

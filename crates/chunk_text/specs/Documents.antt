@@ -61,6 +61,7 @@ abbrev pub trimmed_line : Draft → List ℕ → Result Draft Fault
 trimmed_line D [] = Ok D
 trimmed_line D (b ∷ bs) = cond (b == 35) (Ok D) (worded_line D (words (b ∷ bs)))
 
+-- a line of the text
 abbrev pub read_line : Draft → List ℕ → Result Draft Fault
 read_line D l = trimmed_line D (trimmed l)
 
@@ -92,6 +93,7 @@ empty_chunk = record {
   others = [];
 }
 
+-- a document of which nothing has been read
 abbrev pub empty_draft : Draft
 empty_draft = record { format = None; records = None; memory = None; unended = None; chunk = empty_chunk }
 

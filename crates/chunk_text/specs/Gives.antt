@@ -7,6 +7,7 @@ use Rattle.chunk_text.specs.declared.fault.DocumentError.TheVariants.{NoMemory, 
 use Rattle.chunk_text.specs.declared.fault.ReadError.{ReadError}
 use Rattle.chunk_text.specs.declared.fault.ReadError.TheVariants.{Memory, Line}
 
+-- what f makes of what was read; a fault is passed on
 infixl 10 ◌>>=◌
 abbrev pub ◌>>=◌ : {A B E : Type 0} → Result A E → (A → Result B E) → Result B E
 (Ok x) >>= f = f x
@@ -17,6 +18,7 @@ abbrev pub Reads : {X Y : Type 0} → (X → Y) → Result X Fault → Result Y 
 Reads view (Ok x) says = says ≡ Ok (view x)
 Reads view (Err f) says = says ≡ Err f
 
+-- how a line was not read
 abbrev pub Fails : {Y : Type 0} → ReadError → Result Y Fault → Type 0
 Fails Memory says = ⊤
 Fails (Line f) says = says ≡ Err f
@@ -30,11 +32,12 @@ Gives view (Err e) says = Fails e says
 abbrev pub Says : {T : Type 0} → (Bor (List ℕ) → Result T Fault → Type 0) → (List ℕ → Result T Fault) → Type 0
 Says answers says = (w : Bor _) (r : Result _ Fault) → answers w r → r ≡ says w.now
 
--- what was read of a document, or the number of the line that has a fault, from 0, and the fault
+-- how a document was not read: the number of the line that has a fault, from 0, and the fault
 abbrev pub FailsAt : {Y : Type 0} → DocumentError → Result Y (ℕ × Fault) → Type 0
 FailsAt NoMemory says = ⊤
 FailsAt (Faulty k f) says = says ≡ Err (k, f)
 
+-- what was read of a document
 abbrev pub GivesAll : {X Y : Type 0} → (X → Y) → Result X DocumentError → Result Y (ℕ × Fault) → Type 0
 GivesAll view (Ok x) says = says ≡ Ok (view x)
 GivesAll view (Err e) says = FailsAt e says

@@ -8,3 +8,6 @@ pub mod ChunkLines
 pub mod Verbs
 pub mod Documents
 pub mod Seen
+pub mod Writing
+pub mod Writable
+pub mod Laws

@@ -76,11 +76,12 @@ member_row (s ∷ t ∷ q ∷ []) = do
   Ok (record { scope = scope; target = target; resolved = Some resolved })
 member_row (s ∷ t ∷ q ∷ w ∷ ws) = Err WrongWords
 
--- the mark of an import from an external module in front of what a statement declares
+-- whether the mark of an import from an external module stands in front, and what stands behind it
 abbrev pub is_external : List Word → Bool
 is_external [] = false
 is_external (w ∷ ws) = bytes_eq w (codes "external")
 
+-- the words without that mark
 abbrev pub past_mark : List Word → List Word
 past_mark [] = []
 past_mark (w ∷ ws) = cond (bytes_eq w (codes "external")) ws (w ∷ ws)

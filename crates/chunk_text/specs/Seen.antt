@@ -1,4 +1,4 @@
--- Drafts and documents, seen without where they lie in memory. Assumes nothing.
+-- Drafts and documents as values, without where they lie in memory. Assumes nothing.
 use Rattle.std.specs.Option.{option_map}
 use Rattle.chunk_tables.specs.View.{module_of, chunk_of}
 use Rattle.chunk_text.specs.declared.document.Document as documents

@@ -10,6 +10,7 @@ use Rattle.chunk_text.specs.declared.fault.Fault.{Fault}
 use Rattle.chunk_text.specs.declared.fault.Fault.TheVariants.{NoSuchLine, WrongWords, NoNumber, NoSymbol, NoSuchWord, GivenTwice}
 use Rattle.chunk_text.specs.Gives.{◌>>=◌}
 
+-- a word is its bytes
 abbrev pub Word : Type 0
 Word = List ℕ
 
@@ -17,6 +18,7 @@ Word = List ℕ
 abbrev pub words : List ℕ → List Word
 words line = slice_split (λ b. b == 32) line
 
+-- an empty word, which stands where a space is too many
 abbrev pub is_nil : Word → Bool
 is_nil [] = true
 is_nil (b ∷ bs) = false
@@ -36,7 +38,7 @@ symbol_in w = do
 abbrev pub either : Word → Word → Word → Result Bool Fault
 either w first second = cond (bytes_eq w first) (Ok true) (cond (bytes_eq w second) (Ok false) (Err NoSuchWord))
 
--- no word
+-- that no word is left
 abbrev pub no_word : List Word → Result (Unit {0}) Fault
 no_word [] = Ok tt
 no_word (w ∷ ws) = Err WrongWords
@@ -67,7 +69,7 @@ each reads (w ∷ ws) = do
 abbrev pub adding : {A : Type 0} → (Word → Result A Fault) → List A → List Word → Result (List A) Fault
 adding reads rows ws = each reads ws >>= λ xs. Ok (rows ++ xs)
 
--- what is given once
+-- what can be given once: what is there, if anything, and what is given now
 abbrev pub once : {A : Type 0} → Option A → A → Result (Option A) Fault
 once None x = Ok (Some x)
 once (Some y) x = Err GivenTwice

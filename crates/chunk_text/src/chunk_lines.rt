@@ -1,4 +1,4 @@
-// What the lines of a chunk's lists add to it.
+// The lines that stand outside of modules and add to a list of the chunk, or name its runtime.
 ghost use Rattle.std.specs.Prelude.{map};
 ghost use Rattle.chunk_tables.specs.View.{chunk_of};
 ghost use Rattle.chunk_text.specs.Gives.{Gives};
@@ -10,22 +10,32 @@ use crate::words::{add_each, add_names, number_in, once, only_number, symbol_in}
 use chunk_tables::chunk::Chunk;
 use std::alloc::Global;
 
-// How a line of a chunk's lists begins.
+/// What such a line adds to. The documentation of the text has the words.
 #[derive(Clone, Copy)]
 pub enum ChunkVerb {
+    /// Names that are defined where the script will run.
     Globals,
+    /// The module of the runtime, which is no list: it can be given once.
     Runtime,
+    /// The modules that the chunk joins.
     Members,
+    /// External modules that they import from.
     Direct,
+    /// External modules that the entry passes on.
     EntryLevel,
+    /// External modules whose symbols are read all the same.
     Indirect,
+    /// One symbol that the entry refers to.
     Entry,
+    /// Symbols of external modules that are read.
     Used,
+    /// Symbols of statements that the bundler adds.
     Synthetic,
+    /// One other chunk.
     Other,
 }
 
-// Adds to a chunk what a line of its lists says.
+/// Adds what the line says. A line that comes again adds to what the first one did, so long lists can be broken up.
 pub fn read_chunk_line(
     heap: Global,
     to: &mut Chunk,

@@ -1,4 +1,4 @@
-// The rows that lines of a chunk say.
+// The rows that lines outside of modules say.
 ghost use Rattle.std.specs.Prelude.{◌≡◌, map};
 ghost use Rattle.chunk_tables.specs.View.{module_of, other_of};
 ghost use Rattle.chunk_text.specs.Gives.{Reads, Gives};
@@ -15,7 +15,8 @@ use std::alloc::Global;
 
 const CJS: &[u8] = b"cjs";
 
-// The code of the format whose option word it is. Any other word is handed on as 0, for the chunk's checks to refuse.
+/// The code of the format that the word chooses. Any other word gives 0, which no format has: a wrong format is for the checks of
+/// the chunk to refuse, and no fault of the line.
 pub fn format_code(word: &[u8]) -> u8
     ensures { result ≡ format_code word.now }
 {
@@ -47,6 +48,7 @@ fn sizes_in(
     })
 }
 
+/// The sizes of a session's memory, all five.
 pub fn memory_row(words: &[&[u8]]) -> Result<MemorySizes, Fault>
     ensures { result ≡ memory_row (map (λ w. w.now) words.now) }
 {
@@ -56,7 +58,7 @@ pub fn memory_row(words: &[&[u8]]) -> Result<MemorySizes, Fault>
     }
 }
 
-// The namespace of an external module is its first symbol.
+// A normal module or an external one. The text has no word for an external module's namespace: it is the first symbol.
 fn kind_in(word: &[u8]) -> Result<ModuleKind, Fault>
     ensures { result ≡ kind_in word.now }
 {
@@ -92,7 +94,7 @@ fn empty_module(heap: Global, kind: ModuleKind, exec_order: u32) -> Module
     }
 }
 
-// How a module begins.
+/// The module that begins with these words: its kind and its execution order.
 pub fn module_row(heap: Global, words: &[&[u8]]) -> Result<Module, Fault>
     ensures { Reads module_of result (module_row (map (λ w. w.now) words.now)) }
 {
@@ -104,6 +106,7 @@ pub fn module_row(heap: Global, words: &[&[u8]]) -> Result<Module, Fault>
     Ok(empty_module(heap, kind, exec_order))
 }
 
+/// A symbol that the entry refers to, with a word behind it if it came by way of a CommonJS module.
 pub fn entry_row(words: &[&[u8]]) -> Result<EntrySymbol, Fault>
     ensures { result ≡ entry_row (map (λ w. w.now) words.now) }
 {
@@ -124,6 +127,7 @@ pub fn entry_row(words: &[&[u8]]) -> Result<EntrySymbol, Fault>
     })
 }
 
+/// Another chunk: its number, its name, and the symbols that are imported from it.
 pub fn other_row(heap: Global, words: &[&[u8]]) -> Result<OtherChunk, ReadError>
     ensures { Gives other_of result (other_row (map (λ w. w.now) words.now)) }
 {

@@ -1,4 +1,4 @@
-// A document: the lines that describe a chunk.
+// A document: the lines that describe one chunk.
 ghost use Rattle.std.specs.Prelude.{◌≡◌, map};
 ghost use Rattle.chunk_text.specs.Documents.{is_separator, document, finished, read_lines};
 ghost use Rattle.chunk_text.specs.Gives.{GivesAll};
@@ -14,20 +14,23 @@ use std::alloc::Global;
 
 const SEPARATOR: &[u8] = b"---";
 
-// The tables, and the memory that there is for a session, where the document gives it.
+/// What a document describes. The tables are not checked: a document can describe any, and a program hands them on to be refused.
 #[derive(Drop)]
 pub struct Document {
+    /// The tables that the lines say.
     pub chunk: Chunk,
+    /// How much memory a session over them is to have, where a line says that. It is for documents that show what too little does.
     pub memory: Option<MemorySizes>,
 }
 
-// Whether the line stands between two documents.
+/// Whether the line stands between two documents, so that one input can hold many.
 pub fn is_separator(line: &[u8]) -> bool
     ensures { result ≡ is_separator line.now }
 {
     trim_front(line) == SEPARATOR
 }
 
+// Reads the lines into the draft, up to the first that has a fault, and tells the number of that.
 fn read_lines(heap: Global, draft: &mut Draft, lines: &[&[u8]]) -> Result<(), DocumentError>
     ensures { GivesAll (λ _. draft_of draft.new) result (read_lines 0 (draft_of draft.old) (map (λ l. l.now) lines.now)) }
 {
@@ -39,7 +42,8 @@ fn read_lines(heap: Global, draft: &mut Draft, lines: &[&[u8]]) -> Result<(), Do
     Ok(())
 }
 
-// A document whose modules have their ends.
+// The document that the draft has become. A module that has no end may have lost lines, so it is a fault, of the line behind
+// the last one. A format that no line gives is handed on as one that there is not.
 fn finish(draft: Draft, end: usize) -> Result<Document, DocumentError>
     ensures { GivesAll document_of result (finished end (draft_of draft)) }
 {
@@ -55,7 +59,8 @@ fn finish(draft: Draft, end: usize) -> Result<Document, DocumentError>
     })
 }
 
-// The document that the lines are, or its first fault.
+/// The document that the lines are, or the first of them that is faulty, counted from 0, and what is wrong with it. Nothing is
+/// passed over but empty lines and remarks: a line that is not understood may be one that matters.
 pub fn read_document(heap: Global, lines: &[&[u8]]) -> Result<Document, DocumentError>
     ensures { GivesAll document_of result (document (map (λ l. l.now) lines.now)) }
 {

@@ -1,4 +1,4 @@
-// What has been read of a document.
+// A document of which some lines have been read.
 ghost use Rattle.std.specs.Prelude.{◌≡◌, map, Some};
 ghost use Rattle.std.specs.Option.{option_map};
 ghost use Rattle.chunk_tables.specs.View.{module_of, chunk_of};
@@ -17,17 +17,23 @@ use line_text::cut::trim_front;
 use session_memory::sizes::MemorySizes;
 use std::alloc::Global;
 
-// The format, the number of records and the room, where these were given; the module whose end has not come yet; and the
-// other tables.
+/// What has been read of a document. Lines that may come once are kept apart from the tables, to tell a second one; and so is the
+/// module whose end has not come yet, since it decides which lines can come next.
 #[derive(Drop)]
 pub struct Draft {
+    /// The format's code, once a line gives it.
     pub format: Option<u8>,
+    /// How many names may be on record, once a line says so.
     pub records: Option<u32>,
+    /// The memory for a session, once a line says how much.
     pub memory: Option<MemorySizes>,
+    /// The module in which the next line stands, if it stands in one.
     pub unended: Option<Module>,
+    /// The tables so far, with the modules that have ended.
     pub chunk: Chunk,
 }
 
+// Tables to which no line has added.
 fn empty_chunk(heap: Global) -> Chunk
     ensures { chunk_of result ≡ empty_chunk }
 {
@@ -49,6 +55,7 @@ fn empty_chunk(heap: Global) -> Chunk
 }
 
 impl Draft {
+    /// A draft of which no line has been read.
     pub fn new(heap: Global) -> Draft
         ensures { draft_of result ≡ empty_draft }
     {
@@ -127,7 +134,8 @@ impl Draft {
         }
     }
 
-    // An empty line, and one that begins with a number sign, say nothing.
+    /// Reads one line. An empty line and one that begins with a number sign say nothing. After a fault the draft is no longer of use:
+    /// what the line would have added to may be gone.
     pub fn read_line(&mut self, heap: Global, line: &[u8]) -> Result<(), ReadError>
         ensures { Gives (λ _. draft_of self.new) result (read_line (draft_of self.old) line.now) }
     {

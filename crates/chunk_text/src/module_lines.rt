@@ -1,4 +1,4 @@
-// What the lines of a module add to it.
+// The lines that stand in a module and add to it.
 ghost use Rattle.std.specs.Prelude.{map};
 ghost use Rattle.chunk_tables.specs.View.{module_of};
 ghost use Rattle.chunk_text.specs.Gives.{Gives};
@@ -12,28 +12,44 @@ use crate::words::{mark, once, only_number};
 use chunk_tables::chunk::Module;
 use std::alloc::Global;
 
-// How a line of a module begins that adds to it.
+/// What such a line adds.
 #[derive(Clone, Copy)]
 pub enum ModuleVerb {
+    /// That the module is printed inside a function.
     Wrapped,
+    /// That it has an `import()`.
     DynamicImport,
+    /// That it asks for the address of a file.
     FileUrl,
+    /// That it uses `module`.
     UsesModule,
+    /// That it uses `module` or `exports`.
     UsesModuleOrExports,
+    /// A scope. Scopes, symbols and references are numbered as their lines come.
     Scope,
+    /// A symbol.
     Symbol,
+    /// Which symbol stands for `import.meta.hot`.
     Hot,
+    /// Which symbol stands for `this`.
     This,
+    /// Which symbol is the default export.
     Default,
+    /// A symbol that stands for a missing export.
     Shim,
+    /// A symbol that an import declares.
     Import,
+    /// A name that the module takes from outside.
     Unresolved,
+    /// A reference.
     Reference,
+    /// A reference to a member of a symbol. Without a symbol that the member is, it is like any other.
     Member,
+    /// A statement at the module's top.
     Statement,
 }
 
-// Adds to a module what a line of it says.
+/// Adds what the line says. A mark that is made again stays made; what a module has one of can be given once.
 pub fn read_module_line(
     heap: Global,
     to: &mut Module,

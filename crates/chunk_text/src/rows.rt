@@ -14,7 +14,7 @@ const DASH: &[u8] = b"-";
 
 const EXTERNAL: &[u8] = b"external";
 
-// A scope. The first one is the root, and can have a dash in place of a parent.
+/// A scope, by the number of its parent. The first one is the root, which has none, and can be written with a dash.
 pub fn scope_row(first: bool, words: &[&[u8]]) -> Result<Scope, Fault>
     ensures { Reads parent_of result (scope_row first (map (λ w. w.now) words.now)) }
 {
@@ -27,7 +27,7 @@ pub fn scope_row(first: bool, words: &[&[u8]]) -> Result<Scope, Fault>
     Ok(Scope { parent })
 }
 
-// The symbol behind a key, where the words begin with the key, and the words that are left.
+// The symbol behind the key, if the words begin with it, and the words that are left.
 fn behind<'w, 'a>(
     key: &[u8],
     words: &'w [&'a [u8]],
@@ -40,7 +40,7 @@ fn behind<'w, 'a>(
     }
 }
 
-// A link, an alias, both in this order, or neither.
+// A symbol's link and its alias, each if it is there. They have one order, so that what is written has one form.
 fn links_in(words: &[&[u8]]) -> Result<(Option<SymbolRef>, Option<SymbolRef>), Fault>
     ensures { result ≡ links_in (map (λ w. w.now) words.now) }
 {
@@ -50,6 +50,7 @@ fn links_in(words: &[&[u8]]) -> Result<(Option<SymbolRef>, Option<SymbolRef>), F
     Ok((link, alias))
 }
 
+/// A symbol: its name, its scope, whether it is bound, and what it is linked to or read through.
 pub fn symbol_row(heap: Global, words: &[&[u8]]) -> Result<Symbol, ReadError>
     ensures { Gives symbol_of result (symbol_row (map (λ w. w.now) words.now)) }
 {
@@ -69,6 +70,7 @@ pub fn symbol_row(heap: Global, words: &[&[u8]]) -> Result<Symbol, ReadError>
     })
 }
 
+/// A name that the module takes from outside, and the scope in which it stands.
 pub fn unresolved_row(heap: Global, words: &[&[u8]]) -> Result<Unresolved, ReadError>
     ensures { Gives unresolved_of result (unresolved_row (map (λ w. w.now) words.now)) }
 {
@@ -80,6 +82,7 @@ pub fn unresolved_row(heap: Global, words: &[&[u8]]) -> Result<Unresolved, ReadE
     Ok(Unresolved { name, scope })
 }
 
+/// A reference: the scope in which it stands, and the symbol of the module that it means.
 pub fn reference_row(words: &[&[u8]]) -> Result<Reference, Fault>
     ensures { result ≡ reference_row (map (λ w. w.now) words.now) }
 {
@@ -93,7 +96,7 @@ pub fn reference_row(words: &[&[u8]]) -> Result<Reference, Fault>
     })
 }
 
-// A member reference, which can be resolved.
+/// A reference to a member of a symbol, and the symbol that the member is, where that is known.
 pub fn member_row(words: &[&[u8]]) -> Result<Reference, Fault>
     ensures { result ≡ member_row (map (λ w. w.now) words.now) }
 {
@@ -107,7 +110,7 @@ pub fn member_row(words: &[&[u8]]) -> Result<Reference, Fault>
     })
 }
 
-// Whether the words begin with the mark of an import from an external module, and the words behind it.
+// Whether the words begin with the mark of an import from an external module, and what stands behind it.
 fn external_mark<'w, 'a>(words: &'w [&'a [u8]]) -> (bool, &'w [&'a [u8]])
     ensures mark { result.0 ≡ is_external (map (λ w. w.now) words.now) }
     ensures rest { map (λ w. w.now) result.1.now ≡ past_mark (map (λ w. w.now) words.now) }
@@ -118,6 +121,7 @@ fn external_mark<'w, 'a>(words: &'w [&'a [u8]]) -> (bool, &'w [&'a [u8]])
     }
 }
 
+/// A statement: whether it is printed, whether it imports from an external module, and what it declares.
 pub fn statement_row(heap: Global, words: &[&[u8]]) -> Result<Statement, ReadError>
     ensures { Gives statement_of result (statement_row (map (λ w. w.now) words.now)) }
 {

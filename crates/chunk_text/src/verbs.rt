@@ -8,20 +8,27 @@ use crate::fault::Fault;
 use crate::module_lines::ModuleVerb;
 use crate::words::find_verb;
 
-// How a line begins that stands outside of a module.
+/// How a line begins that stands outside of a module.
 #[derive(Clone, Copy)]
 pub enum OutsideVerb {
+    /// The word of the format.
     Format,
+    /// How many names may be on record.
     Records,
+    /// How much memory there is for a session.
     Memory,
+    /// The first line of a module.
     Module,
+    /// Something that the chunk has a list of, or its runtime.
     List(ChunkVerb),
 }
 
-// How a line begins that stands in a module.
+/// How a line begins that stands in a module.
 #[derive(Clone, Copy)]
 pub enum InsideVerb {
+    /// Something that the module has.
     Adds(ModuleVerb),
+    /// The last line of the module.
     End,
 }
 
@@ -68,12 +75,15 @@ const INSIDE_VERBS: &[(&[u8], InsideVerb)] = &[
     (b"end", InsideVerb::End),
 ];
 
+/// What a line outside of a module is, by its first word. A line of a module is none here: without its module it says nothing.
 pub fn outside_verb(word: &[u8]) -> Result<OutsideVerb, Fault>
     ensures { result ≡ find_verb outside_verbs word.now }
 {
     find_verb(OUTSIDE_VERBS, word)
 }
 
+/// What a line in a module is, by its first word. A line of the chunk is none here, so a module whose end was forgotten is told
+/// at the next such line.
 pub fn inside_verb(word: &[u8]) -> Result<InsideVerb, Fault>
     ensures { result ≡ find_verb inside_verbs word.now }
 {

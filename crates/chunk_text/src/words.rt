@@ -11,27 +11,29 @@ use line_text::cut::cut;
 use line_text::numeral::number;
 use std::alloc::{AllocError, Global};
 
-// The words of a line, which stand between single spaces.
+/// The words of a line, which stand between single spaces. They are not copied: a name is taken out of the line when a table
+/// gets it.
 pub fn words_of(heap: Global, line: &[u8]) -> Result<Vec<&[u8]>, AllocError>
     ensures { IfOk result (λ v. map (λ w. w.now) v.items ≡ words line.now) }
 {
     line.split(|byte| *byte == b' ').collect(heap)
 }
 
-// Two spaces in a row have an empty word between them, and a space at the end has one behind it.
+/// Whether a space is too many: two in a row have an empty word between them, and one at the end has one behind it.
 pub fn has_empty_word(words: &[&[u8]]) -> bool
     ensures { result ≡ list_any is_nil (map (λ w. w.now) words.now) }
 {
     words.iter().any(|word| word.is_empty())
 }
 
+/// The number that a word writes.
 pub fn number_in(word: &[u8]) -> Result<u32, Fault>
     ensures { result ≡ number_in word.now }
 {
     number(word).ok_or(Fault::NoNumber)
 }
 
-// A symbol, as its module's number, a dot and its own.
+/// The symbol that a word writes: its module's number, a dot, and its own.
 pub fn symbol_in(word: &[u8]) -> Result<SymbolRef, Fault>
     ensures { result ≡ symbol_in word.now }
 {
@@ -42,7 +44,7 @@ pub fn symbol_in(word: &[u8]) -> Result<SymbolRef, Fault>
     })
 }
 
-// Whether a word is the first of two or the second.
+/// Which of two words it is. `true` is the first.
 pub fn either(word: &[u8], first: &[u8], second: &[u8]) -> Result<bool, Fault>
     ensures { result ≡ either word.now first.now second.now }
 {
@@ -55,6 +57,7 @@ pub fn either(word: &[u8], first: &[u8], second: &[u8]) -> Result<bool, Fault>
     }
 }
 
+/// That no word is left. A line is not read half: what stands behind its end may be meant.
 pub fn no_word(words: &[&[u8]]) -> Result<(), Fault>
     ensures { Reads (λ u. u) result (no_word (map (λ w. w.now) words.now)) }
 {
@@ -72,7 +75,7 @@ pub(crate) fn mark(words: &[&[u8]]) -> Result<bool, Fault>
     Ok(true)
 }
 
-// The one word that there is.
+/// The word of a line that has one.
 pub fn only_word<'a>(words: &[&'a [u8]]) -> Result<&'a [u8], Fault>
     ensures { Reads (λ w. w.now) result (only_word (map (λ w. w.now) words.now)) }
 {

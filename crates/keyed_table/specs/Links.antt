@@ -10,6 +10,7 @@ use Rattle.keyed_table.specs.declared.slot.Slot.{Slot}
 abbrev pub blank : {K V : Type 0} → Slot K V
 blank = record { entry = None; head = None; next = None }
 
+-- memory in which no slot holds or links anything
 abbrev pub AllBlank : {K V : Type 0} → List (Slot K V) → Type 0
 AllBlank {K} {V} slots = (k : ℕ) (d : Slot K V) → k < length slots → slice_index_or slots k d ≡ blank
 

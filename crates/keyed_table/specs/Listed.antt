@@ -12,7 +12,7 @@ key_of e = e.key
 abbrev pub Sorted : {X K : Type 0} → (X → K) → (K → K → Bool) → List X → Type 0
 Sorted key under rows = AllAdjacentBelow (λ x y. under (key y) (key x) ≡ false) rows (length rows)
 
--- the rows, by strictly ascending keys, in the first n places of a list that is otherwise as it was
+-- the first n places hold the rows, each once and from the lowest key to the highest; the other places are as they were
 pub record Listed {X K : Type 0} (key : X → K) (under : K → K → Bool) (rows was is : List X) (n : ℕ) : Type 0 where
   pub count : n ≡ length rows
   pub shuffled : IsPermutation rows (take n is)

@@ -3,7 +3,7 @@ use Rattle.std.specs.Prelude.{◌≡◌, ℕ, ◌<◌, Bool, true, false, cond, 
 use Rattle.keyed_table.specs.declared.slot.Entry.{Entry}
 
 module _ {K V : Type 0} (alike : K → K → Bool) where
-  -- the value under a key
+  -- what the first entry of the key says; in a table it is the only one
   abbrev pub lookup : List (Entry K V) → K → Option V
   lookup [] k = None
   lookup (e ∷ es) k = cond (alike e.key k) (Some e.value) (lookup es k)
@@ -37,5 +37,6 @@ pub record Clash {K V : Type 0} (es : List (Entry K V)) : Type 0 where
   pub within : j < length es
   pub key : (get_or es i d).key ≡ (get_or es j d).key
 
+-- no key has two places
 abbrev pub Distinct : {K V : Type 0} → List (Entry K V) → Type 0
 Distinct es = Clash es → ⊥

@@ -1,4 +1,4 @@
-// A keyed hash table that owns its memory, and its entries in the order of their keys.
+// A hash table for every sort of key, over memory that a caller makes, and its listing in the order of keys.
 #![tactic(auto)]
 
 mod listing;

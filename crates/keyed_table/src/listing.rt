@@ -1,4 +1,4 @@
-// Entries in the order of their keys.
+// How entries are put into the order of their keys.
 ghost use Rattle.std.specs.Prelude.{◌≡◌, ◌≤◌, length, take, drop};
 ghost use Rattle.std.specs.List.Sorted.{IsPermutation};
 ghost use Rattle.keyed_table.specs.Links.{Full, held};

@@ -1,18 +1,21 @@
-// The rows of a table's memory, and what callers see of them.
+// The slots of a table's memory, and the entries that they hold.
 ghost use Rattle.std.specs.Prelude.{◌≡◌, false, MatchOption};
 ghost use Rattle.keyed_table.specs.Links.{AllBlank, blank};
 
 use keys::key::HashKey;
 
-// A key with its value.
+/// A key and the value under it, as a table tells them.
 #[derive(Clone, Copy, Default)]
 pub struct Entry<K, V> {
+    /// The key. Two entries of one table never have the same.
     pub key: K,
+    /// What was last put under it.
     pub value: V,
 }
 
-// Slot i has the i-th entry, the place of the newest entry of bucket i, and the place of the next older one in the
-// bucket of the i-th. Links are places, since the slots are the caller's memory.
+/// A place for one entry, and two links. Slot i has the i-th entry; `head` leads to the newest entry of bucket i, and `next` from
+/// the i-th entry to the next older one of its bucket. Links are places in the same memory and no pointers, so the memory can be
+/// handed over and back. What slots say of each other is the table's to keep, and no caller's to write.
 #[derive(Clone, Copy)]
 pub struct Slot<K, V> {
     pub(crate) entry: Option<Entry<K, V>>,
@@ -21,7 +24,7 @@ pub struct Slot<K, V> {
 }
 
 impl<K, V> Slot<K, V> {
-    // A slot to fill a table's memory with.
+    /// A slot to make memory of, in the number that the table is to have room for.
     pub fn empty() -> Slot<K, V>
         ensures { result ≡ blank }
     {

@@ -4,7 +4,7 @@ use Rattle.keys.specs.Names.{name_alike, name_hash}
 use Rattle.keys.specs.Refs.{mixed}
 use Rattle.keys.specs.declared.binding_key.Binding.{Binding}
 
--- bindings are equal where their scopes and their names are
+-- it takes the scope and the name to tell a binding
 abbrev pub binding_alike : Binding → Binding → Bool
 binding_alike x y = x.scope == y.scope && name_alike x.name y.name
 

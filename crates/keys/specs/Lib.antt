@@ -2,6 +2,6 @@ pub mod Order
 pub mod Refs
 pub mod Names
 pub mod Bindings
-pub mod Scoped
-pub mod Texts
-pub mod Numbers
+pub mod BindingEquality
+pub mod NameOrder
+pub mod NumberOrder

@@ -5,11 +5,11 @@ use Rattle.names.specs.Spelt.{spelt}
 use Rattle.names.specs.declared.name.Name.{Name}
 use Rattle.keys.specs.Refs.{mixed}
 
--- names are equal where their bytes are
+-- one text makes one name
 abbrev pub name_alike : Name → Name → Bool
 name_alike x y = bytes_eq (spelt x) (spelt y)
 
--- the bytes mixed, first to last
+-- the hash of the text: each byte mixed into that of the bytes in front
 abbrev pub name_hash : Name → ℕ
 name_hash x = fold mixed 0 (spelt x)
 
@@ -20,5 +20,6 @@ lex [] (y ∷ ys) = true
 lex (x ∷ xs) [] = false
 lex (x ∷ xs) (y ∷ ys) = nat_lt x y || (x == y && lex xs ys)
 
+-- names are ordered as their texts
 abbrev pub name_under : Name → Name → Bool
 name_under x y = lex (spelt x) (spelt y)

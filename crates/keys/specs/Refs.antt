@@ -3,13 +3,14 @@ use Rattle.std.specs.Prelude.{ℕ, ◌+◌, ◌*◌, ◌/◌, ◌%◌, ◌^◌, 
 use Rattle.keys.specs.declared.refs.SymbolRef.{SymbolRef}
 use Rattle.keys.specs.declared.refs.ChunkIdx.{ChunkIdx}
 
--- a word mixed into a hash
+-- a hash h, and a word w mixed into it; 32 bits throughout
 abbrev pub mixed : ℕ → ℕ → ℕ
 mixed h w = ((h + w) * 2654435769 % 2 ^ 32 / 2 ^ 15 + (h + w) * 2654435769) % 2 ^ 32
 
 abbrev pub symbol_hash : SymbolRef → ℕ
 symbol_hash x = mixed (mixed 0 x.owner) x.symbol
 
+-- by module, and in one module by number
 abbrev pub symbol_under : SymbolRef → SymbolRef → Bool
 symbol_under x y = nat_lt x.owner y.owner || (x.owner == y.owner && nat_lt x.symbol y.symbol)
 

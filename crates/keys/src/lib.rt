@@ -4,5 +4,6 @@
 pub mod ascend;
 pub mod binding_key;
 pub mod key;
+mod mixing;
 pub mod name_key;
 pub mod refs;

@@ -3,13 +3,13 @@ ghost use Rattle.std.specs.Prelude.{◌≡◌, fold};
 ghost use Rattle.keys.specs.Refs.{mixed};
 ghost use Rattle.keys.specs.Names.{name_hash, name_under};
 ghost use Rattle.names.proofs.Padding.{name_decides};
-ghost use Rattle.keys.specs.Texts.{name_agrees, name_order};
+ghost use Rattle.keys.specs.NameOrder.{name_agrees, name_order};
 
 use crate::key::{HashKey, OrderedKey};
-use crate::refs::impls::mix;
+use crate::mixing::mix;
 use names::name::Name;
 
-// The bytes mixed, first to last.
+// The bytes mixed one after another, so that texts of the same bytes in another order differ in their hashes.
 fn hash_bytes(bytes: &[u8]) -> u32
     ensures { result ≡ fold mixed 0 bytes.now }
 {

@@ -10,6 +10,6 @@ until b xs = before_first (λ x. x == b) xs
 abbrev pub past : ℕ → List ℕ → List ℕ
 past b xs = after_first (λ x. x == b) xs
 
--- the text from its first byte that is no space
+-- the text without the spaces in front
 abbrev pub trimmed : List ℕ → List ℕ
 trimmed xs = drop (position_or_len (λ x. not (x == 32)) xs) xs

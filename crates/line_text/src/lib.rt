@@ -1,4 +1,4 @@
-// Text by lines and words: what the programs read.
+// Text as programs read it: its lines, what stands on either side of a byte, and numbers.
 #![tactic(auto)]
 
 pub mod cut;

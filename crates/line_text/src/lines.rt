@@ -5,7 +5,8 @@ ghost use Rattle.std.specs.Iterator.{at_most};
 
 use crate::cut::{cut, trim_front};
 
-// What is left of a text, and how many lines of it were passed.
+/// The lines of a text one by one, each without its end and the spaces in front. They are counted, so that whoever reads one can
+/// say which was wrong. The text need not be UTF-8: a name can be any bytes.
 #[derive(Clone, Copy)]
 pub struct Lines<'a> {
     rest: &'a [u8],
@@ -13,6 +14,7 @@ pub struct Lines<'a> {
 }
 
 impl<'a> Lines<'a> {
+    /// The lines from the first on.
     pub fn new(text: &'a [u8]) -> Lines<'a>
         ensures { (result.rest.now ≡ text.now) × (result.passed ≡ 0) }
     {
@@ -22,7 +24,7 @@ impl<'a> Lines<'a> {
         }
     }
 
-    // The number of the line that was read last; the first has number 1.
+    /// The number of the line that was read last, as people count: the first has number 1.
     pub fn number(&self) -> usize
         ensures { result ≡ self.now.passed }
     {
@@ -37,7 +39,7 @@ impl<'a> Iterator for Lines<'a> {
 
     ghost next_gives = { λ s r t. MatchOption r ((s.rest.now ≡ []) × (t.rest.now ≡ []) × (t.passed ≡ s.passed)) (λ line. (line.now ≡ trimmed (until 10 s.rest.now)) × (t.rest.now ≡ past 10 s.rest.now) × (t.passed ≡ min (s.passed + 1) (2 ^ 64 - 1))) };
 
-    // The next line without the spaces in front of it.
+    // A line end at the end of the text begins no further line.
     fn next(&mut self) -> Option<&'a [u8]> {
         if self.rest.is_empty() {
             return None;

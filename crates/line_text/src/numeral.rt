@@ -1,4 +1,4 @@
-// Numbers as they are written.
+// Numbers that are written in decimal.
 ghost use Rattle.std.specs.Prelude.{◌≡◌, ◌+◌, ◌-◌, ◌*◌, ◌^◌, ◌<◌, ◌&&◌, if◌then◌else◌, Some, None, nat_lt};
 ghost use Rattle.line_text.specs.Numerals.{is_digit, numeral};
 
@@ -10,7 +10,8 @@ fn with_digit(n: u32, byte: u8) -> Option<u32>
     n.checked_mul(10)?.checked_add(digit)
 }
 
-// The number that the digits write; none where they are no digits, or it does not fit 32 bits.
+/// The number that the digits write. None where one of them is no digit, there is none at all, or the number does not fit 32
+/// bits; no sign or space is passed over, so a number is written in one way but for zeros in front.
 pub fn number(digits: &[u8]) -> Option<u32>
     ensures { result ≡ numeral digits.now }
 {

@@ -3,6 +3,7 @@ use Rattle.std.specs.Prelude.{ℕ, List, codes}
 use Rattle.names.specs.declared.refusal.Refusal.{Refusal}
 use Rattle.names.specs.declared.refusal.Refusal.TheVariants.{OutsideLimit, OutOfRange, OutOfOrder, Misplaced, BadLink, BadReference, BadName, NoSuchSymbol, NotInRoot, NoFreeRecord, CounterLimit, SearchTooLong, NotRepairable, Unrepaired, BufferTooShort}
 
+-- the number that a user is told
 abbrev pub number_of : Refusal → ℕ
 number_of OutsideLimit = 1
 number_of OutOfRange = 2
@@ -20,6 +21,7 @@ number_of NotRepairable = 13
 number_of Unrepaired = 14
 number_of BufferTooShort = 15
 
+-- the words that a user is told
 abbrev pub words_of : Refusal → List ℕ
 words_of OutsideLimit = codes "outside a limit, or too little memory"
 words_of OutOfRange = codes "a number or the format is out of range"

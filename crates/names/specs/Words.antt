@@ -1,7 +1,8 @@
 -- The words that may not name a symbol. Assumes nothing.
 use Rattle.std.specs.Prelude.{ℕ, List, [], ◌∷◌, codes}
 
--- the reserved words of ECMA-262, `await` and `yield` among them, and then those that only strict code reserves
+-- what ECMA-262 reserves: first the words of all code, with `await` and `yield`, which some code may bind; then those of
+-- strict code alone
 abbrev pub reserved_words : List (List ℕ)
 reserved_words =
     codes "await" ∷ codes "break" ∷ codes "case" ∷ codes "catch" ∷ codes "class" ∷ codes "const" ∷ codes "continue"

@@ -1,13 +1,14 @@
 // Limits that several layers share.
 
-// A base, and a name that is reserved, has at most so many bytes.
+/// In bytes: the most of which a name can be made, or that can be reserved. With such a limit a name fits a buffer of its own,
+/// and giving a name never asks for memory.
 pub const LONGEST_BASE: usize = 100;
 
-// A name has at most so many bytes: the longest base, `$` and four digits.
+/// In bytes: what the longest base makes with `$` and four digits, so that a base has all of its numbered forms or none.
 pub const LONGEST_NAME: usize = 105;
 
-// No counter, and no number behind a base, passes this.
+/// The last number that can stand behind a base. Since numbers end, so does a search whose candidates are all vetoed.
 pub const HIGHEST_NUMBER: u16 = 9999;
 
-// At most so many names are on record.
+/// The most records that a caller can ask for: what one search and one listing cost is then known before the tables are.
 pub const MOST_RECORDS: u32 = 4096;

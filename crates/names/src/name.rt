@@ -1,5 +1,4 @@
-// A name: up to 105 bytes, and zeros behind them, so that names with the same text are the same value. The buffer is the
-// name's own, since a name is `Copy` and nothing here takes from the heap.
+// A name, in a buffer of its own.
 ghost use Rattle.std.specs.Prelude.{◌≡◌, ℕ, ◌≤◌, length, slice_index};
 
 pub mod form;
@@ -8,6 +7,9 @@ pub mod text;
 
 use crate::limits::LONGEST_NAME;
 
+/// The name of a symbol, as it is printed. It has its own buffer and is `Copy`: names go in and out of tables, and nothing is
+/// taken from the heap for them. The text is bytes and no `str`, since limits count bytes, and what a helper is named after
+/// need not be UTF-8. Behind the text the buffer is zero, so that two names with one text are one value.
 #[derive(Clone, Copy)]
 pub struct Name {
     len: u8,

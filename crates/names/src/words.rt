@@ -2,7 +2,14 @@
 ghost use Rattle.std.specs.Prelude.{◌≡◌, map};
 ghost use Rattle.names.specs.Words.{reserved_words};
 
-// The reserved words of ECMA-262, `await` and `yield` among them, and then those that only strict code reserves.
+/// What no symbol of a chunk may be called. A name has to be good wherever it is printed, and a chunk may be a module, strict
+/// code, or have a function of any kind around it. So `await` and `yield` are here, which some code may bind, and behind the
+/// words of all code those that strict code alone reserves:
+///
+/// ```js
+/// var let; // a script may
+/// export var package; // a syntax error: a module is strict code
+/// ```
 pub const RESERVED_WORDS: [&[u8]; 46] = [
     b"await",
     b"break",
@@ -52,6 +59,7 @@ pub const RESERVED_WORDS: [&[u8]; 46] = [
     b"static",
 ];
 
+/// The same list, by a call: a contract tells of an answer which words it has, and of a constant it cannot.
 pub fn reserved_words() -> [&'static [u8]; 46]
     ensures { map (λ word. word.now) result ≡ reserved_words }
 {

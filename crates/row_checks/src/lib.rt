@@ -1,4 +1,4 @@
-// Checks of rows, one after another, and of the numbers in them.
+// What the checks of all tables are made of: going over rows, and whether a number names a row.
 #![tactic(auto)]
 
 pub mod numbers;

@@ -1,4 +1,4 @@
-// Checks of rows, one after another, and the tests that they are made of.
+// Rows that are checked one after another, and the tests that such a check is made of.
 ghost use Rattle.std.specs.Prelude.{◌≡◌, ℕ, [], ◌∷◌, Option};
 ghost use Rattle.names.specs.Refusals.{number_of};
 ghost use Rattle.chunk_faults.specs.Tests.{least, told};
@@ -6,7 +6,8 @@ ghost use Rattle.row_checks.specs.Told.{Tells, first_told};
 
 use names::refusal::Refusal;
 
-// Refuses where the test holds.
+/// Refuses where the test holds. A check of a row is a line of these, the least number first, and `?` ends it at the first that
+/// holds: so the order of the lines is the order of the refusals.
 pub fn refuse_if(holds: bool, refusal: Refusal) -> Result<(), Refusal>
     ensures { told result ≡ least ((number_of refusal, holds) ∷ []) }
 {
@@ -16,7 +17,8 @@ pub fn refuse_if(holds: bool, refusal: Refusal) -> Result<(), Refusal>
     Ok(())
 }
 
-// Refuses the first row that is to be refused.
+/// Refuses with what the check says of the first row that it refuses. A user who mends one row after another is led through a
+/// table from its top.
 pub fn check_rows<T, C: Fn(usize, &T) -> Result<(), Refusal>>(
     rows: &[T],
     check: C,

@@ -1,4 +1,4 @@
-// The checks of symbols and references.
+// The checks of symbols and of references, which share an index of the bindings.
 #![tactic(auto)]
 
 ghost use Rattle.std.specs.Prelude.{◌≡◌};
@@ -10,7 +10,7 @@ use std::alloc::Global;
 pub mod references;
 pub mod symbols;
 
-// What a module's symbols and references are checked by.
+// What one row of a module is checked against: the whole chunk, for links and aliases, and the bindings of the module.
 #[derive(Drop)]
 struct ModuleCheck<'c, 'm> {
     chunk: &'c Chunk,

@@ -17,6 +17,7 @@ use row_checks::rows::{check_rows, refuse_if};
 use std::alloc::Global;
 
 impl<'c, 'm> ModuleCheck<'c, 'm> {
+    // Whether the reference names a row that there is not.
     fn reference_strays(&self, reference: &Reference) -> bool
         ensures { result ≡ reference_strays (chunk_of self.now.chunk.now) (module_of self.now.indexed.module.now) reference.now }
     {
@@ -37,6 +38,8 @@ impl<'c, 'm> ModuleCheck<'c, 'm> {
                 .is_none_or(|nearest| reference.target as usize != nearest)
     }
 
+    // Whether the reference is resolved to a member, and its target cannot have members to be resolved. Only an import has. In a
+    // wrapped module it has to be printed elsewhere: were it printed inside the function, it could capture the member's name.
     fn is_stray_member(&self, reference: &Reference, target: &Symbol) -> bool
         ensures { result ≡ stray_member (module_of self.now.indexed.module.now) reference.now (symbol_of target.now) }
     {
@@ -46,6 +49,7 @@ impl<'c, 'm> ModuleCheck<'c, 'm> {
                 || module.wrapped && !is_elsewhere(target))
     }
 
+    // Whether the reference means something else than its scopes say.
     fn is_bad_reference(&self, reference: &Reference) -> bool
         ensures { result ≡ bad_reference (module_of self.now.indexed.module.now) reference.now }
     {
@@ -56,7 +60,7 @@ impl<'c, 'm> ModuleCheck<'c, 'm> {
         self.misses_target(reference, target) || self.is_stray_member(reference, target)
     }
 
-    // Refuses the reference with the smallest number of a test that holds.
+    // A number that leads nowhere comes before a meaning that is wrong.
     fn check_reference(&self, reference: &Reference) -> Result<(), Refusal>
         ensures { told result ≡ least (reference_tests (chunk_of self.now.chunk.now) (module_of self.now.indexed.module.now) reference.now) }
     {
@@ -65,6 +69,7 @@ impl<'c, 'm> ModuleCheck<'c, 'm> {
     }
 }
 
+// Refuses the first faulty reference of the module.
 fn check_module_references(heap: Global, chunk: &Chunk, module: &Module) -> Result<(), Refusal>
     ensures { told result ≡ first_found least (reference_rows (chunk_of chunk.now) (module_of «module».now)) }
 {

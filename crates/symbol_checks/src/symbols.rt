@@ -19,7 +19,8 @@ use row_checks::numbers::{dangles, is_scope};
 use row_checks::rows::{check_rows, refuse_if};
 use std::alloc::Global;
 
-// Whether the chain of links from the symbol ends at one that has an alias.
+// Whether the symbol is a variable that is printed as a property of another. Where its links go in a circle that is refused at
+// the circle, and not here.
 fn leads_to_alias(chunk: &Chunk, symbol: SymbolRef) -> bool
     ensures { result ≡ (not (endless (chunk_of chunk.now) symbol) && is_some (alias_of (chunk_of chunk.now) (canonical (chunk_of chunk.now) symbol))) }
 {
@@ -28,6 +29,7 @@ fn leads_to_alias(chunk: &Chunk, symbol: SymbolRef) -> bool
 }
 
 impl<'c, 'm> ModuleCheck<'c, 'm> {
+    // Whether the symbol names a row that there is not.
     fn symbol_strays(&self, symbol: &Symbol) -> bool
         ensures { result ≡ symbol_strays (chunk_of self.now.chunk.now) (module_of self.now.indexed.module.now) (symbol_of symbol.now) }
     {
@@ -36,7 +38,8 @@ impl<'c, 'm> ModuleCheck<'c, 'm> {
             || dangles(self.chunk, symbol.alias)
     }
 
-    // Whether an earlier symbol is bound under the same name in the same scope.
+    // Whether the scope has bound the name to an earlier symbol. A source cannot do that: `var now; var now` is one binding, and
+    // `let now; let now` an error. With two it would be open which of them a reference means.
     fn is_clash(&self, number: usize, symbol: &Symbol) -> bool
         ensures { result ≡ clashes (module_of self.now.indexed.module.now) number (symbol_of symbol.now) }
     {
@@ -47,6 +50,8 @@ impl<'c, 'm> ModuleCheck<'c, 'm> {
                 .is_some_and(|first| first < number)
     }
 
+    // Whether the symbol stands where none of its sort can. An external module has no source to declare anything, and a facade is
+    // printed at the top level, so it belongs to no function or block.
     fn is_misplaced(&self, symbol: &Symbol) -> bool
         ensures { result ≡ misplaced (module_of self.now.indexed.module.now) (symbol_of symbol.now) }
     {
@@ -57,7 +62,7 @@ impl<'c, 'm> ModuleCheck<'c, 'm> {
         }
     }
 
-    // Whether the symbol's own chain of links, of which its link is the first, does not end.
+    // Whether following links from the symbol leads round in a circle, so that no symbol is the one that is declared.
     fn is_circle(&self, symbol: &Symbol) -> bool
         ensures { result ≡ circles (chunk_of self.now.chunk.now) (symbol_of symbol.now) }
     {
@@ -67,6 +72,8 @@ impl<'c, 'm> ModuleCheck<'c, 'm> {
             .is_some_and(|link| chunk.link_of(chunk.end_after(link)).is_some())
     }
 
+    // Whether the symbol is printed as a property of what is itself printed as a property. Names are given to variables, so one
+    // step has to lead to one.
     fn is_doubly_aliased(&self, symbol: &Symbol) -> bool
         ensures { result ≡ doubly_aliased (chunk_of self.now.chunk.now) (symbol_of symbol.now) }
     {
@@ -76,13 +83,18 @@ impl<'c, 'm> ModuleCheck<'c, 'm> {
             .is_some_and(|alias| leads_to_alias(chunk, alias))
     }
 
+    // Whether a declaration of the module is printed as another variable without being an import. In
+    //
+    //     const now = 1;
+    //
+    // `now` is nobody else's; were it linked, its name would be given for another module's sake.
     fn is_stray_import(&self, number: usize, symbol: &Symbol) -> bool
         ensures { result ≡ stray_import (module_of self.now.indexed.module.now) number (symbol_of symbol.now) }
     {
         symbol.bound && is_elsewhere(symbol) && !self.indexed.module.is_root_named_import(number)
     }
 
-    // Refuses the symbol with the smallest number of a test that holds.
+    // The tests in the order of their numbers.
     fn check_symbol(&self, number: usize, symbol: &Symbol) -> Result<(), Refusal>
         ensures { told result ≡ least (symbol_tests (chunk_of self.now.chunk.now) (module_of self.now.indexed.module.now) number (symbol_of symbol.now)) }
     {
@@ -97,13 +109,14 @@ impl<'c, 'm> ModuleCheck<'c, 'm> {
     }
 }
 
-// Whether the symbol is printed as another one.
+// Whether the symbol is printed by another's name.
 pub(crate) fn is_elsewhere(symbol: &Symbol) -> bool
     ensures { result ≡ elsewhere (symbol_of symbol.now) }
 {
     symbol.link.is_some() || symbol.alias.is_some()
 }
 
+// Refuses the first faulty symbol of the module.
 fn check_module_symbols(heap: Global, chunk: &Chunk, module: &Module) -> Result<(), Refusal>
     ensures { told result ≡ first_found least (symbol_rows (chunk_of chunk.now) (module_of «module».now)) }
 {

@@ -13,9 +13,10 @@ covers Bare bare = bare
 covers Numbered bare = not bare
 covers Both bare = true
 
--- a veto bars the candidates that are spelt so and that its kind covers
+-- whether a veto is on the candidate c, which is the bare base or not
 abbrev pub bars : List ℕ → Bool → Veto → Bool
 bars c bare v = bytes_eq (spelt v.name) c && covers v.kind bare
 
+-- whether one of the vetoes is
 abbrev pub barred : List Veto → List ℕ → Bool → Bool
 barred vs c bare = list_any (bars c bare) vs

@@ -11,15 +11,20 @@ use names::name::Name;
 use names::refusal::Refusal;
 use std::alloc::{AllocError, Global};
 
-// Which candidates of a name are vetoed.
+/// For which candidates a veto counts. A search asks of its base as it stands, and then of numbered forms, and the two differ:
+/// an author may have shadowed a name on purpose, but nobody wrote a reference to `now$1` to be captured.
 #[derive(Clone, Copy)]
 pub enum VetoKind {
+    /// Where the name is the base that is sought for.
     Bare,
+    /// Where the name is a numbered form of the base.
     Numbered,
+    /// Wherever the name comes up.
     Both,
 }
 
 impl VetoKind {
+    // Whether the kind counts for a bare candidate, or else for a numbered one.
     fn covers(self, bare: bool) -> bool
         ensures { result ≡ covers self bare }
     {
@@ -31,14 +36,17 @@ impl VetoKind {
     }
 }
 
+/// A name that no search is to answer, or not in one of the two ways.
 #[derive(Clone, Copy)]
 pub struct Veto {
+    /// The candidate as a whole: a veto on `now$1` is no veto on `now`.
     pub name: Name,
+    /// In which way it is barred.
     pub kind: VetoKind,
 }
 
 impl Veto {
-    // A veto on the name of this text, unless that is longer than 105 bytes.
+    /// A veto on the candidate that is spelt so. Refused with 7 where the text has more than 105 bytes: no candidate has.
     pub fn new(kind: VetoKind, text: &[u8]) -> Result<Veto, Refusal>
         ensures { MatchResult result
             (λ veto. (veto.kind ≡ kind) × (spelt veto.name ≡ text.now))
@@ -48,6 +56,7 @@ impl Veto {
         Ok(Veto { name, kind })
     }
 
+    // Whether the veto is on this candidate.
     fn bars(&self, candidate: &Name, bare: bool) -> bool
         ensures { result ≡ bars (spelt candidate.now) bare self.now }
     {
@@ -55,7 +64,9 @@ impl Veto {
     }
 }
 
-// A veto on everything is a flag of its own, since it leaves the list as it is.
+/// A policy that vetoes what it was told to, name by name or everything. It is for callers who know of names that no table
+/// shows, as those that a page defines beside the script. A veto on everything is a flag of its own, since it leaves the list
+/// as it is.
 #[derive(Drop)]
 pub struct Vetoes {
     all: bool,
@@ -71,7 +82,7 @@ impl Policy for Vetoes {
 }
 
 impl Vetoes {
-    // Nothing is vetoed.
+    /// The policy that vetoes nothing: a search under it looks at the records alone.
     pub fn none(heap: Global) -> Vetoes
         ensures { (result.all ≡ false) × (result.listed.items ≡ []) }
     {
@@ -81,7 +92,7 @@ impl Vetoes {
         }
     }
 
-    // One veto more; where there is no memory for it, the vetoes are as they were.
+    /// One veto more. Where there is no memory for it, the vetoes are as they were.
     pub fn add(&mut self, veto: Veto) -> Result<(), AllocError>
         ensures listed { self.new.listed.items ≡ (if is_ok result then self.old.listed.items ++ veto ∷ [] else self.old.listed.items) }
         ensures all { self.new.all ≡ self.old.all }
@@ -90,14 +101,14 @@ impl Vetoes {
         Ok(())
     }
 
-    // Every candidate is vetoed.
+    /// Every candidate is vetoed from here on, so that no search under the policy is granted.
     pub fn add_all(&mut self)
         ensures { (self.new.all ≡ true) × (self.new.listed.items ≡ self.old.listed.items) }
     {
         self.all = true;
     }
 
-    // Takes all vetoes back.
+    /// Takes all vetoes back, the one on everything too.
     pub fn clear(&mut self)
         ensures { (self.new.all ≡ false) × (self.new.listed.items ≡ []) }
     {

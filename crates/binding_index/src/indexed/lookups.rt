@@ -26,7 +26,8 @@ impl<'a> Bindings for IndexedModule<'a> {
 }
 
 impl<'a> IndexedModule<'a> {
-    // The module with an index of its bindings.
+    /// The module with an index of its bindings, or without, where the heap has no room for one. A caller sees no difference but
+    /// the time.
     pub fn new(heap: Global, module: &'a Module) -> IndexedModule<'a>
         ensures { result.module.now ≡ «module».now }
     {
@@ -34,8 +35,8 @@ impl<'a> IndexedModule<'a> {
         IndexedModule { module, index }
     }
 
-    // The nearest binding of the name, from the scope outward, the root's too. What it shares with a module's own is
-    // `nearest_among`; a method of the trait would have to be told the scopes.
+    /// The symbol that a reference in the scope means by the name, as the module's `nearest_binding` answers it. What the two
+    /// share is `nearest_among`; a method of the trait would have to be told the scopes.
     pub fn nearest_binding(&self, scope: u32, name: &[u8]) -> Option<usize>
         ensures { result ≡ nearest (module_of self.now.module.now) scope name.now }
     {

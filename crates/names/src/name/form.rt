@@ -8,7 +8,15 @@ use crate::limits::{HIGHEST_NUMBER, LONGEST_BASE};
 use itoa::Buffer;
 
 impl Name {
-    // The name with `$` and `k` behind it. There is one for each base of at most 100 bytes and each k from 1 to 9,999.
+    /// The name with `$` and `k` behind it, which a symbol is called where its own name is taken:
+    ///
+    /// ```js
+    /// const now = () => 1; // of clock.js
+    /// const now$1 = () => 2; // of page.js, which calls it `now` as well
+    /// ```
+    ///
+    /// Two bases never meet in one form: what stands behind its last `$` is the number, and the rest is the base. There is no form
+    /// of a name of more than 100 bytes, and none for 0 or a number above 9,999.
     pub fn numbered(&self, k: u16) -> Option<Name>
         ensures { MatchOption result ((length (spelt self.now) ≤ 100) × Suffix k → ⊥) (λ n. (length (spelt self.now) ≤ 100) × Suffix k × FormOf (spelt self.now) k (spelt n)) }
     {

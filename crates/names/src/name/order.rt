@@ -12,8 +12,7 @@ ghost use Rattle.names.specs.Spelt.{spelt};
 use super::Name;
 use std::cmp::Ordering;
 
-// Not derived: the zeros behind a text are not read. Names are equal where their texts are, and that is where they are
-// the same value.
+// Not derived, so that the zeros behind a text need not be read. Names with one text are one value, so nothing is lost.
 impl PartialEq for Name {
     ghost eq = { λ x y. bytes_eq (spelt x) (spelt y) };
 

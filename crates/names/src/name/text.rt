@@ -9,14 +9,15 @@ use super::Name;
 use crate::limits::{LONGEST_BASE, LONGEST_NAME};
 use crate::refusal::Refusal;
 
-// Whether a text can be a base: names are made from it, or it is reserved.
+/// Whether a text can be a base, of which names are made, or can be reserved. An empty one names nothing, and behind a longer
+/// one there would be no room for `$` and four digits.
 pub fn is_base(text: &[u8]) -> bool
     ensures { result ≡ is_base text.now }
 {
     !text.is_empty() && text.len() <= LONGEST_BASE
 }
 
-// The name without a byte, to fill memory with.
+// The name without a byte. Memory is filled with it before names come; no symbol is called so.
 impl Default for Name {
     fn default() -> Name
         ensures { spelt result ≡ [] }
@@ -29,7 +30,7 @@ impl Default for Name {
 }
 
 impl Name {
-    // The name with this text, unless the text is longer than 105 bytes.
+    /// The name with this text. Refused with 7 where it has more than 105 bytes: no base, and no numbered form of one, has.
     pub fn new(text: &[u8]) -> Result<Name, Refusal>
         ensures { MatchResult result (λ n. spelt n ≡ text.now) (λ e. (number_of e ≡ 7) × (105 < length text.now)) }
     {
@@ -41,34 +42,35 @@ impl Name {
         Ok(name)
     }
 
-    // How many bytes the name has.
+    /// How many bytes the text has, without the zeros behind it.
     pub fn len(&self) -> usize
         ensures { result ≡ length (spelt self.now) }
     {
         usize::from(self.len)
     }
 
+    /// The text: what a printer writes.
     pub fn as_bytes(&self) -> &[u8]
         ensures { result.now ≡ spelt self.now }
     {
         &self.bytes[..self.len()]
     }
 
-    // Whether the name can be a base.
+    /// Whether the name can be a base. The name without a byte cannot, nor can a numbered form that is longer than any base.
     pub fn is_base(&self) -> bool
         ensures { result ≡ is_base (spelt self.now) }
     {
         is_base(self.as_bytes())
     }
 
-    // Whether the name is spelt so.
+    /// Whether the name is spelt so. It compares with a text that has not been made a name, and may be too long for one.
     pub fn is(&self, word: &[u8]) -> bool
         ensures { result ≡ bytes_eq (spelt self.now) word.now }
     {
         self.as_bytes() == word
     }
 
-    // A text behind the name.
+    // Puts a text behind the name's own.
     pub(crate) fn append(&mut self, text: &[u8])
         requires { self.old.len + length text.now ≤ 105 }
         ensures spells { spelt self.new ≡ spelt self.old ++ text.now }

@@ -1,5 +1,0 @@
-use Rattle.keyed_table.proofs.Lawful as lawful
-use Rattle.keyed_table.proofs.table.methods.laws.Goals as goal
-
-pub returns : goal.returns
-returns g c = lawful.laws g.K.PartialEq.eq g.met.K.HashKey.tells

@@ -1,9 +1,0 @@
-pub mod Digits
-pub mod Symbols
-pub mod Lines
-pub mod Rows
-pub mod Parts
-pub mod Modules
-pub mod ChunkRows
-pub mod Chunks
-pub mod Documents

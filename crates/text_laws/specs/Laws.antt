@@ -1,9 +1,0 @@
--- What writing and reading have to do with each other. Assumes nothing.
-use Rattle.std.specs.Prelude.{◌≡◌, Ok}
-use Rattle.chunk_text.specs.Documents.{Document, document}
-use Rattle.text_laws.specs.Writable.{Writable}
-use Rattle.text_laws.specs.Writing.{written}
-
--- what is written is read again
-abbrev pub WrittenIsRead : Type 0
-WrittenIsRead = (d : Document) → Writable d → document (written d) ≡ Ok d
