@@ -1,0 +1,5 @@
+// What programs share: an input is cut into documents, and each document is answered.
+#![tactic(auto)]
+
+pub mod document;
+pub mod lines;
