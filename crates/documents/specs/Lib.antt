@@ -1,2 +1,3 @@
+pub mod Answers
 pub mod Documents
 pub mod View

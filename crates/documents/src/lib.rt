@@ -1,5 +1,6 @@
 // What programs share: an input is cut into documents, and each document is answered.
 #![tactic(auto)]
 
+pub mod answers;
 pub mod document;
 pub mod lines;
