@@ -1,3 +1,4 @@
 pub mod Answers
 pub mod Documents
+pub mod Records
 pub mod View

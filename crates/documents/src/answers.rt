@@ -35,12 +35,7 @@ pub fn answer_input<
     R: Read,
     W: Write,
     F: Fn(Global, DocumentLines<'_, '_>, &mut Vec<u8>) -> io::Result<()>,
->(
-    heap: Global,
-    input: &mut R,
-    output: &mut W,
-    answer: F,
-) -> io::Result<()>
+>(heap: Global, input: &mut R, output: &mut W, answer: F) -> io::Result<()>
     requires { F.IsAlwaysCallable answer }
     ensures { (says : Document → List ℕ) → Says (F.post answer heap) says → OnOk result (IfSome (R.remaining input.old) (λ text. Appends (W.contents output.old) (W.contents output.new) (answers says text))) }
 {

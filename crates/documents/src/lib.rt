@@ -4,3 +4,4 @@
 pub mod answers;
 pub mod document;
 pub mod lines;
+pub mod records;
