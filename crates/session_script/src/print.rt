@@ -2,13 +2,14 @@
 use answer_lines::piece::write_each;
 use chunk_faults::sizes::MemorySizes;
 use conflict_resolver::resolver::{NameRecord, Resolved};
+use documents::records::write_records;
 use given_names::NamedSymbol;
 use keys::refs::SymbolRef;
 use names::name::Name;
 use names::refusal::Refusal;
 use renamer::renamer::Renamer;
 use renamer::renamer::naming::RootName;
-use std::alloc::Global;
+use std::alloc::{AllocError, Global};
 use std::io::{self, Write};
 
 // What memory is given back.
@@ -18,11 +19,9 @@ pub fn memory(sizes: &MemorySizes, out: &mut Vec<u8>) -> io::Result<()> {
 }
 
 // A call and the text that it is about.
-fn begin(verb: &[u8], text: &[u8], out: &mut Vec<u8>) -> io::Result<()> {
-    out.write_all(verb)?;
-    out.write_all(b" ")?;
-    out.write_all(text)?;
-    out.write_all(b" ")
+fn begin(verb: &[u8], text: &[u8], out: &mut Vec<u8>) -> Result<(), AllocError> {
+    let space: &[u8] = b" ";
+    write_each(&[verb, space, text, space], out)
 }
 
 pub fn text_refused(
@@ -79,6 +78,16 @@ pub fn printed(symbol: SymbolRef, name: Option<Name>, out: &mut Vec<u8>) -> io::
     }
 }
 
+// A buffer for the names: of so many places, or else of as many as are needed, and never of more than there are names.
+pub fn name_rows(
+    heap: Global,
+    places: Option<u32>,
+    named: usize,
+) -> Result<Vec<NamedSymbol>, AllocError> {
+    let places = places.map_or(named, |places| places as usize);
+    vec![in heap; NamedSymbol::default(); places.min(named)]
+}
+
 // The named symbols, ascending by module and number.
 pub fn names(
     count: Result<usize, Refusal>,
@@ -97,6 +106,5 @@ pub fn records(heap: Global, renamer: &Renamer, out: &mut Vec<u8>) -> io::Result
     let mut rows: Vec<NameRecord> = (0..renamer.records())
         .filter_map(|i| renamer.record_at(i))
         .collect(heap)?;
-    rows.sort_unstable_by_key(|row| row.key);
-    Ok(write_each(&rows, out)?)
+    Ok(write_records(&mut rows, out)?)
 }
