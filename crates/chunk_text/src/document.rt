@@ -1,6 +1,6 @@
 // A document: the lines that describe a chunk.
-ghost use Rattle.std.specs.Prelude.{◌≡◌, map};
-ghost use Rattle.chunk_text.specs.Documents.{is_separator, document, finished, read_lines};
+ghost use Rattle.std.specs.Prelude.{map};
+ghost use Rattle.chunk_text.specs.Documents.{document, finished, read_lines};
 ghost use Rattle.chunk_text.specs.Gives.{GivesAll};
 ghost use Rattle.chunk_text.specs.Seen.{draft_of, document_of};
 
@@ -8,24 +8,14 @@ use crate::draft::Draft;
 use crate::fault::{DocumentError, Fault};
 use chunk_faults::sizes::MemorySizes;
 use chunk_tables::chunk::Chunk;
-use line_text::cut::trim_front;
 use names::limits::MOST_RECORDS;
 use std::alloc::Global;
-
-const SEPARATOR: &[u8] = b"---";
 
 // The tables, and the memory that there is for a session, where the document gives it.
 #[derive(Drop)]
 pub struct Document {
     pub chunk: Chunk,
     pub memory: Option<MemorySizes>,
-}
-
-// Whether the line stands between two documents.
-pub fn is_separator(line: &[u8]) -> bool
-    ensures { result ≡ is_separator line.now }
-{
-    trim_front(line) == SEPARATOR
 }
 
 fn read_lines(heap: Global, draft: &mut Draft, lines: &[&[u8]]) -> Result<(), DocumentError>
