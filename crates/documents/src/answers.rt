@@ -8,16 +8,16 @@ ghost use Rattle.documents.specs.Answers.{Says, answers};
 
 use crate::document::{DocumentLines, documents_of};
 use crate::lines::lines_of;
-use std::alloc::Global;
+use std::alloc::{AllocError, Global};
 use std::io::{self, Read, Write};
 
 /// The answers to the documents of a text, one behind another. `answer` writes what a document answers behind what it is
-/// given; where it fails, or memory runs out, there is no answer at all, so that nobody takes a part of it for the whole.
-pub fn answers_to<F: Fn(Global, DocumentLines<'_, '_>, &mut Vec<u8>) -> io::Result<()>>(
+/// given. Where memory runs out there is no answer at all, so that nobody takes a part of it for the whole.
+pub fn answers_to<F: Fn(Global, DocumentLines<'_, '_>, &mut Vec<u8>) -> Result<(), AllocError>>(
     heap: Global,
     text: &[u8],
     answer: F,
-) -> io::Result<Vec<u8>>
+) -> Result<Vec<u8>, AllocError>
     requires { F.IsAlwaysCallable answer }
     ensures { (says : Document → List ℕ) → Says (F.post answer heap) says → IfOk result (λ out. out.items ≡ answers says text.now) }
 {
@@ -34,7 +34,7 @@ pub fn answers_to<F: Fn(Global, DocumentLines<'_, '_>, &mut Vec<u8>) -> io::Resu
 pub fn answer_input<
     R: Read,
     W: Write,
-    F: Fn(Global, DocumentLines<'_, '_>, &mut Vec<u8>) -> io::Result<()>,
+    F: Fn(Global, DocumentLines<'_, '_>, &mut Vec<u8>) -> Result<(), AllocError>,
 >(heap: Global, input: &mut R, output: &mut W, answer: F) -> io::Result<()>
     requires { F.IsAlwaysCallable answer }
     ensures { (says : Document → List ℕ) → Says (F.post answer heap) says → OnOk result (IfSome (R.remaining input.old) (λ text. Appends (W.contents output.old) (W.contents output.new) (answers says text))) }

@@ -5,3 +5,4 @@ pub mod answers;
 pub mod document;
 pub mod lines;
 pub mod records;
+pub mod searches;

@@ -8,7 +8,6 @@ use names::limits::MOST_RECORDS;
 use names::name::Name;
 use names::refusal::Refusal;
 use std::alloc::{AllocError, Global};
-use std::io;
 use vetoes::{Veto, Vetoes};
 
 // Why a document cannot be carried out: the place of its first faulty line, and what is wrong with it.
@@ -62,7 +61,7 @@ impl Session {
         self.resolver.resolve(&base, &self.vetoes)
     }
 
-    fn perform(&mut self, command: Command<'_>, out: &mut Vec<u8>) -> io::Result<()> {
+    fn perform(&mut self, command: Command<'_>, out: &mut Vec<u8>) -> Result<(), AllocError> {
         match command {
             // Heeded where the session was made.
             Command::Records(_) => {}
@@ -101,26 +100,30 @@ fn records_in(commands: &[Command<'_>]) -> u32 {
     }
 }
 
-fn perform(heap: Global, commands: &[Command<'_>], out: &mut Vec<u8>) -> io::Result<()> {
+fn perform(heap: Global, commands: &[Command<'_>], out: &mut Vec<u8>) -> Result<(), AllocError> {
     let records = records_in(commands);
     if !(1..=MOST_RECORDS).contains(&records) {
-        return Ok(answer_lines::refused(Refusal::OutsideLimit, out)?);
+        return answer_lines::refused(Refusal::OutsideLimit, out);
     }
     let mut session = Session::new(heap, records as usize)?;
     for command in commands {
         session.perform(*command, out)?;
     }
-    Ok(session.list(heap, out)?)
+    session.list(heap, out)
 }
 
 /// Where a line is faulty, that is the whole answer.
-pub fn answer(heap: Global, document: DocumentLines<'_, '_>, out: &mut Vec<u8>) -> io::Result<()> {
+pub fn answer(
+    heap: Global,
+    document: DocumentLines<'_, '_>,
+    out: &mut Vec<u8>,
+) -> Result<(), AllocError> {
     match read_commands(heap, document.lines) {
         Ok(commands) => perform(heap, &commands, out),
         Err(ReadError::Faulty(place, fault)) => {
             let number = document.number_at(place);
-            Ok(answer_lines::fault(number, fault.words(), out)?)
+            answer_lines::fault(number, fault.words(), out)
         }
-        Err(ReadError::NoMemory) => Err(AllocError.into()),
+        Err(ReadError::NoMemory) => Err(AllocError),
     }
 }
