@@ -9,7 +9,6 @@ use renamer::memory::Memory;
 use renamer::renamer::Renamer;
 use session_memory::{make, sizes_for};
 use std::alloc::{AllocError, Global};
-use std::io;
 
 // Makes the calls of a session that opened, and gives back its memory.
 fn perform(
@@ -17,7 +16,7 @@ fn perform(
     renamer: Renamer,
     calls: &Calls<'_>,
     out: &mut Vec<u8>,
-) -> io::Result<Memory> {
+) -> Result<Memory, AllocError> {
     let mut session = OpenSession::new(heap, renamer);
     for call in &calls.open {
         session.perform(heap, *call, out)?;
@@ -30,7 +29,7 @@ fn perform(
     Ok(memory)
 }
 
-fn answer_script(heap: Global, script: Script<'_>, out: &mut Vec<u8>) -> io::Result<()> {
+fn answer_script(heap: Global, script: Script<'_>, out: &mut Vec<u8>) -> Result<(), AllocError> {
     let Document { chunk, memory } = script.document;
     let memory = make(heap, sizes_for(&chunk, memory))?;
     let memory = match Renamer::open(heap, chunk, memory) {
@@ -41,17 +40,21 @@ fn answer_script(heap: Global, script: Script<'_>, out: &mut Vec<u8>) -> io::Res
         }
     };
     print::memory(&memory.sizes(), out)?;
-    Ok(answer_lines::done(out)?)
+    answer_lines::done(out)
 }
 
 /// Where a line is faulty, that is the whole answer, and no call is made.
-pub fn answer(heap: Global, document: DocumentLines<'_, '_>, out: &mut Vec<u8>) -> io::Result<()> {
+pub fn answer(
+    heap: Global,
+    document: DocumentLines<'_, '_>,
+    out: &mut Vec<u8>,
+) -> Result<(), AllocError> {
     match read_script(heap, document.lines) {
         Ok(script) => answer_script(heap, script, out),
         Err(DocumentError::Faulty(place, fault)) => {
             let number = document.number_at(place);
-            Ok(answer_lines::fault(number, fault.words(), out)?)
+            answer_lines::fault(number, fault.words(), out)
         }
-        Err(DocumentError::NoMemory) => Err(AllocError.into()),
+        Err(DocumentError::NoMemory) => Err(AllocError),
     }
 }

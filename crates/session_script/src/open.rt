@@ -8,8 +8,7 @@ use keys::refs::SymbolRef;
 use names::refusal::Refusal;
 use renamer::renamer::Renamer;
 use renamer::repairing::NestedScopeRenamer;
-use std::alloc::Global;
-use std::io;
+use std::alloc::{AllocError, Global};
 use vetoes::{Veto, VetoKind, Vetoes};
 
 // With what `policy` vetoes.
@@ -42,7 +41,7 @@ impl OpenSession {
         self.renamer.resolve(base, &self.vetoes)
     }
 
-    fn reserve(&mut self, name: &[u8], out: &mut Vec<u8>) -> io::Result<()> {
+    fn reserve(&mut self, name: &[u8], out: &mut Vec<u8>) -> Result<(), AllocError> {
         match self.renamer.reserve(name) {
             Ok(()) => Ok(()),
             Err(refusal) => print::text_refused(b"reserve", name, refusal, out),
@@ -55,20 +54,20 @@ impl OpenSession {
         symbol: SymbolRef,
         kind: Option<RootBindingKind>,
         out: &mut Vec<u8>,
-    ) -> io::Result<()> {
+    ) -> Result<(), AllocError> {
         let kind = kind.unwrap_or(self.renamer.chunk().root_binding_kind(symbol));
         let answer = self.renamer.add_symbol_in_root_scope(symbol, kind);
         print::root(symbol, answer, out)
     }
 
-    fn veto(&mut self, kind: VetoKind, name: &[u8], out: &mut Vec<u8>) -> io::Result<()> {
+    fn veto(&mut self, kind: VetoKind, name: &[u8], out: &mut Vec<u8>) -> Result<(), AllocError> {
         match Veto::new(kind, name) {
-            Ok(veto) => Ok(self.vetoes.add(veto)?),
+            Ok(veto) => self.vetoes.add(veto),
             Err(refusal) => print::text_refused(b"veto", name, refusal, out),
         }
     }
 
-    fn tell(&self, heap: Global, call: TellCall, out: &mut Vec<u8>) -> io::Result<()> {
+    fn tell(&self, heap: Global, call: TellCall, out: &mut Vec<u8>) -> Result<(), AllocError> {
         match call {
             TellCall::Printed(symbol) => {
                 print::printed(symbol, self.renamer.printed_name(symbol), out)
@@ -86,7 +85,7 @@ impl OpenSession {
         heap: Global,
         call: OpenCall<'_>,
         out: &mut Vec<u8>,
-    ) -> io::Result<()> {
+    ) -> Result<(), AllocError> {
         match call {
             OpenCall::Reserve(name) => self.reserve(name, out),
             OpenCall::Root(symbol, kind) => self.name_root(symbol, kind, out),

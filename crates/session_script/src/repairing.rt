@@ -2,15 +2,14 @@
 use crate::call::TellCall;
 use crate::print;
 use renamer::repairing::NestedScopeRenamer;
-use std::alloc::Global;
-use std::io;
+use std::alloc::{AllocError, Global};
 
 pub fn tell(
     heap: Global,
     renamer: &NestedScopeRenamer,
     call: TellCall,
     out: &mut Vec<u8>,
-) -> io::Result<()> {
+) -> Result<(), AllocError> {
     match call {
         TellCall::Printed(symbol) => print::printed(symbol, renamer.printed_name(symbol), out),
         TellCall::Names(places) => {
