@@ -12,6 +12,7 @@ use names::name::Name;
 use names::refusal::Refusal;
 use std::alloc::AllocError;
 
+pub mod part;
 pub mod piece;
 mod rows;
 

@@ -1,8 +1,7 @@
 -- What the lines of a document say, one after another. Assumes nothing.
-use Rattle.std.specs.Prelude.{ℕ, suc, Bool, cond, ◌++◌, List, [], ◌∷◌, length, Some, None, Option, Result, Ok, Err, codes, ◌==◌}
+use Rattle.std.specs.Prelude.{ℕ, suc, cond, ◌++◌, List, [], ◌∷◌, length, Some, None, Option, Result, Ok, Err, ◌==◌}
 use Rattle.std.specs.List.{list_any}
 use Rattle.std.specs.Option.{unwrap_or}
-use Rattle.std.specs.Str.{bytes_eq}
 use Rattle.session_memory.specs.declared.sizes.MemorySizes.{MemorySizes}
 use Rattle.chunk_tables.specs.Lists.{maybe}
 use Rattle.chunk_tables.specs.Model.{Module, Chunk}
@@ -19,10 +18,6 @@ use Rattle.chunk_text.specs.ChunkRows.{format_code, memory_row, module_row}
 use Rattle.chunk_text.specs.ModuleLines.{module_line}
 use Rattle.chunk_text.specs.ChunkLines.{chunk_line}
 use Rattle.chunk_text.specs.Verbs.{outside_verbs, inside_verbs}
-
--- a line that stands between two documents
-abbrev pub is_separator : List ℕ → Bool
-is_separator l = bytes_eq (trimmed l) (codes "---")
 
 -- what has been read of a document: the format, the number of records and the room, where these were given; the module
 -- whose end has not come yet; and the other tables

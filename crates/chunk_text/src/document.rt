@@ -1,18 +1,15 @@
 // A document: the lines that describe one chunk.
-ghost use Rattle.std.specs.Prelude.{◌≡◌, map};
-ghost use Rattle.chunk_text.specs.Documents.{is_separator, document, finished, read_lines};
+ghost use Rattle.std.specs.Prelude.{map};
+ghost use Rattle.chunk_text.specs.Documents.{document, finished, read_lines};
 ghost use Rattle.chunk_text.specs.Gives.{GivesAll};
 ghost use Rattle.chunk_text.specs.Seen.{draft_of, document_of};
 
 use crate::draft::Draft;
 use crate::fault::{DocumentError, Fault};
 use chunk_tables::chunk::Chunk;
-use line_text::cut::trim_front;
 use names::limits::MOST_RECORDS;
 use session_memory::sizes::MemorySizes;
 use std::alloc::Global;
-
-const SEPARATOR: &[u8] = b"---";
 
 /// What a document describes. The tables are not checked: a document can describe any, and a program hands them on to be refused.
 #[derive(Drop)]
@@ -21,13 +18,6 @@ pub struct Document {
     pub chunk: Chunk,
     /// How much memory a session over them is to have, where a line says that. It is for documents that show what too little does.
     pub memory: Option<MemorySizes>,
-}
-
-/// Whether the line stands between two documents, so that one input can hold many.
-pub fn is_separator(line: &[u8]) -> bool
-    ensures { result ≡ is_separator line.now }
-{
-    trim_front(line) == SEPARATOR
 }
 
 // Reads the lines into the draft, up to the first that has a fault, and tells the number of that.

@@ -2,5 +2,4 @@
 #![tactic(auto)]
 
 pub mod cut;
-pub mod lines;
 pub mod numeral;

@@ -1,12 +1,14 @@
-// Answers documents, one after another.
+// The answer to a document: what the symbols of its chunk are named.
 use crate::print;
-use chunk_text::document::{Document, is_separator, read_document};
+use chunk_text::document::{Document, read_document};
 use chunk_text::fault::DocumentError;
 use deconflict_chunk_symbols::helpers::RequireName;
 use deconflict_chunk_symbols::run::deconflict_chunk_symbols;
+use documents::document::DocumentLines;
 use renamer::renamer::Renamer;
 use session_memory::{make, sizes_for};
 use std::alloc::{AllocError, Global};
+use std::io;
 
 // Names the symbols of the chunk, and tells the names, the helpers and the records.
 fn name_symbols(heap: Global, renamer: &mut Renamer, out: &mut Vec<u8>) -> Result<(), AllocError> {
@@ -32,33 +34,14 @@ fn answer_chunk(heap: Global, document: Document, out: &mut Vec<u8>) -> Result<(
     answer_lines::done(out)
 }
 
-// The document begins at a line with this number.
-fn answer(
-    heap: Global,
-    first: usize,
-    lines: &[&[u8]],
-    out: &mut Vec<u8>,
-) -> Result<(), AllocError> {
-    match read_document(heap, lines) {
-        Ok(document) => answer_chunk(heap, document, out),
-        Err(DocumentError::Faulty(line, fault)) => {
-            answer_lines::fault(first.saturating_add(line), fault.words(), out)
+/// Where a line is faulty, that is the whole answer.
+pub fn answer(heap: Global, document: DocumentLines<'_, '_>, out: &mut Vec<u8>) -> io::Result<()> {
+    match read_document(heap, document.lines) {
+        Ok(document) => Ok(answer_chunk(heap, document, out)?),
+        Err(DocumentError::Faulty(place, fault)) => {
+            let number = document.number_at(place);
+            Ok(answer_lines::fault(number, fault.words(), out)?)
         }
-        Err(DocumentError::NoMemory) => Err(AllocError),
+        Err(DocumentError::NoMemory) => Err(AllocError.into()),
     }
-}
-
-// Answers each document of the text. A line end at the end begins no further line.
-pub fn answer_all(heap: Global, text: &[u8], out: &mut Vec<u8>) -> Result<(), AllocError> {
-    let text = text.strip_suffix(b"\n").unwrap_or(text);
-    let lines: Vec<&[u8]> = text.split(|byte| *byte == b'\n').collect(heap)?;
-    let mut first = 1;
-    for document in lines.split(|line| is_separator(line)) {
-        // Where two separators follow one another, there is no document between them.
-        if !document.is_empty() {
-            answer(heap, first, document, out)?;
-        }
-        first = first.saturating_add(document.len()).saturating_add(1);
-    }
-    Ok(())
 }

@@ -2,6 +2,7 @@
 use answer_lines::piece::write_each;
 use conflict_resolver::resolver::NameRecord;
 use deconflict_chunk_symbols::helpers::RequireName;
+use documents::records::write_records;
 use given_names::NamedSymbol;
 use renamer::renamer::Renamer;
 use std::alloc::{AllocError, Global};
@@ -27,6 +28,5 @@ pub fn records(heap: Global, renamer: &Renamer, out: &mut Vec<u8>) -> Result<(),
     let mut rows: Vec<NameRecord> = (0..renamer.records())
         .filter_map(|i| renamer.record_at(i))
         .collect(heap)?;
-    rows.sort_unstable_by_key(|row| row.key);
-    write_each(&rows, out)
+    write_records(&mut rows, out)
 }

@@ -1,12 +1,10 @@
 // The lines of a document.
-use line_text::cut::cut;
+use line_text::cut::{cut, trim_front};
 use line_text::numeral::number;
 use vetoes::VetoKind;
 
 #[derive(Clone, Copy)]
 pub enum Command<'a> {
-    // An empty line or a comment.
-    Nothing,
     Records(u32),
     Reserve(&'a [u8]),
     Veto(VetoKind, &'a [u8]),
@@ -43,12 +41,20 @@ impl Fault {
     }
 }
 
-// `first` tells that the line is the first of its document that says something.
-pub fn parse(line: &[u8], first: bool) -> Result<Command<'_>, Fault> {
+// What a line asks for; `first` tells that no line of its document asked for anything before. An empty line and a comment
+// ask for nothing.
+pub fn parse(line: &[u8], first: bool) -> Result<Option<Command<'_>>, Fault> {
+    let line = trim_front(line);
+    match line {
+        [] | [b'#', ..] => Ok(None),
+        [.., b' '] => Err(Fault::SpaceAtEnd),
+        line => parse_command(line, first).map(Some),
+    }
+}
+
+fn parse_command(line: &[u8], first: bool) -> Result<Command<'_>, Fault> {
     let (verb, words) = cut(line, b' ');
     match verb {
-        b"" | [b'#', ..] => Ok(Command::Nothing),
-        _ if line.ends_with(b" ") => Err(Fault::SpaceAtEnd),
         b"records" if first => Ok(Command::Records(number(words).ok_or(Fault::NoNumber)?)),
         b"records" => Err(Fault::RecordsNotFirst),
         b"reserve" => Ok(Command::Reserve(parse_name(words)?)),

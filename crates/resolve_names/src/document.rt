@@ -1,40 +1,33 @@
 // Documents: each has its own records and vetoes.
 use crate::command::{Command, Fault, parse};
 use crate::print;
-use answer_lines::piece::write_each;
 use conflict_resolver::resolver::{ConflictResolver, NameRecord, RecordSlot, Resolved};
-use line_text::lines::Lines;
+use documents::document::DocumentLines;
+use documents::records::write_records;
 use names::limits::MOST_RECORDS;
 use names::name::Name;
 use names::refusal::Refusal;
-use std::alloc::Global;
-use std::io;
+use std::alloc::{AllocError, Global};
 use vetoes::{Veto, Vetoes};
 
-const SEPARATOR: &[u8] = b"---";
-
-// What a first reading of a document finds: how many records it has, once a line has said something, and its first
-// faulty line.
-#[derive(Clone, Copy, Default)]
-struct Reading {
-    records: Option<u32>,
-    fault: Option<(usize, Fault)>,
+// Why a document cannot be carried out: the place of its first faulty line, and what is wrong with it.
+#[derive(Clone, Copy)]
+enum ReadError {
+    Faulty(usize, Fault),
+    NoMemory,
 }
 
-impl Reading {
-    fn read(&mut self, line: &[u8], number: usize) {
-        if self.fault.is_some() {
-            return;
-        }
-        match parse(line, self.records.is_none()) {
-            Ok(Command::Nothing) => {}
-            Ok(Command::Records(count)) => self.records = Some(count),
-            Ok(_) => {
-                self.records.get_or_insert(MOST_RECORDS);
-            }
-            Err(fault) => self.fault = Some((number, fault)),
+// All lines are read before any is carried out, so that a faulty one leaves nothing half done.
+fn read_commands<'a>(heap: Global, lines: &[&'a [u8]]) -> Result<Vec<Command<'a>>, ReadError> {
+    let mut commands = Vec::new(heap);
+    for (place, line) in lines.iter().enumerate() {
+        match parse(line, commands.is_empty()) {
+            Ok(Some(command)) => commands.push(command).map_err(|_| ReadError::NoMemory)?,
+            Ok(None) => {}
+            Err(fault) => return Err(ReadError::Faulty(place, fault)),
         }
     }
+    Ok(commands)
 }
 
 // The records and vetoes of a document that is carried out.
@@ -45,6 +38,15 @@ struct Session {
 }
 
 impl Session {
+    // Nothing is on record, and nothing is vetoed.
+    fn new(heap: Global, records: usize) -> Result<Session, AllocError> {
+        let slots = vec![in heap; RecordSlot::empty(); records]?;
+        Ok(Session {
+            resolver: ConflictResolver::new(slots, records),
+            vetoes: Vetoes::none(heap),
+        })
+    }
+
     fn reserve(&mut self, text: &[u8]) -> Result<(), Refusal> {
         let name = Name::new(text)?;
         self.resolver.reserve(&name)
@@ -59,9 +61,10 @@ impl Session {
         self.resolver.resolve(&base, &self.vetoes)
     }
 
-    fn perform(&mut self, command: Command<'_>, out: &mut Vec<u8>) -> io::Result<()> {
+    fn perform(&mut self, command: Command<'_>, out: &mut Vec<u8>) -> Result<(), AllocError> {
         match command {
-            Command::Nothing | Command::Records(_) => {}
+            // Heeded where the session was made.
+            Command::Records(_) => {}
             Command::Reserve(name) => {
                 if let Err(refusal) = self.reserve(name) {
                     print::name_refused(name, refusal, out)?;
@@ -81,56 +84,46 @@ impl Session {
         Ok(())
     }
 
-    // The records, ascending by the bytes of their names.
-    fn list(&self, heap: Global, out: &mut Vec<u8>) -> io::Result<()> {
-        let mut rows: Vec<NameRecord> = (0..self.resolver.len())
+    fn list(&self, heap: Global, out: &mut Vec<u8>) -> Result<(), AllocError> {
+        let mut records: Vec<NameRecord> = (0..self.resolver.len())
             .filter_map(|i| self.resolver.record_at(i))
             .collect(heap)?;
-        // There is a row for each record, so this is not refused.
-        let _ = self.resolver.list(&mut rows);
-        Ok(write_each(&rows, out)?)
+        write_records(&mut records, out)
     }
 }
 
-// Carries out the document that begins at the lines, and has no faulty one.
-fn perform(heap: Global, lines: Lines<'_>, records: u32, out: &mut Vec<u8>) -> io::Result<()> {
-    if !(1..=MOST_RECORDS).contains(&records) {
-        return Ok(answer_lines::refused(Refusal::OutsideLimit, out)?);
+// How many records there are: what the first command says, if it speaks of them.
+fn records_in(commands: &[Command<'_>]) -> u32 {
+    match commands {
+        [Command::Records(count), ..] => *count,
+        _ => MOST_RECORDS,
     }
-    let slots = vec![in heap; RecordSlot::empty(); records as usize]?;
-    let mut session = Session {
-        resolver: ConflictResolver::new(slots, records as usize),
-        vetoes: Vetoes::none(heap),
-    };
-    for line in lines.take_while(|line| *line != SEPARATOR) {
-        if let Ok(command) = parse(line, true) {
-            session.perform(command, out)?;
-        }
+}
+
+fn perform(heap: Global, commands: &[Command<'_>], out: &mut Vec<u8>) -> Result<(), AllocError> {
+    let records = records_in(commands);
+    if !(1..=MOST_RECORDS).contains(&records) {
+        return answer_lines::refused(Refusal::OutsideLimit, out);
+    }
+    let mut session = Session::new(heap, records as usize)?;
+    for command in commands {
+        session.perform(*command, out)?;
     }
     session.list(heap, out)
 }
 
-fn answer(heap: Global, lines: Lines<'_>, reading: Reading, out: &mut Vec<u8>) -> io::Result<()> {
-    match reading.fault {
-        Some((number, fault)) => Ok(answer_lines::fault(number, fault.words(), out)?),
-        None => perform(heap, lines, reading.records.unwrap_or(MOST_RECORDS), out),
-    }
-}
-
-// Answers each document of the text; a line `---` stands between two.
-pub fn answer_all(heap: Global, text: &[u8], out: &mut Vec<u8>) -> io::Result<()> {
-    let mut lines = Lines::new(text);
-    let mut start = lines;
-    let mut reading = Reading::default();
-    // Not a `for`: the lines that are left are where the next document begins.
-    while let Some(line) = lines.next() {
-        if line == SEPARATOR {
-            answer(heap, start, reading, out)?;
-            start = lines;
-            reading = Reading::default();
-        } else {
-            reading.read(line, lines.number());
+/// Where a line is faulty, that is the whole answer.
+pub fn answer(
+    heap: Global,
+    document: DocumentLines<'_, '_>,
+    out: &mut Vec<u8>,
+) -> Result<(), AllocError> {
+    match read_commands(heap, document.lines) {
+        Ok(commands) => perform(heap, &commands, out),
+        Err(ReadError::Faulty(place, fault)) => {
+            let number = document.number_at(place);
+            answer_lines::fault(number, fault.words(), out)
         }
+        Err(ReadError::NoMemory) => Err(AllocError),
     }
-    answer(heap, start, reading, out)
 }

@@ -9,8 +9,18 @@ use line_text::cut::trim_front;
 use std::alloc::Global;
 use vetoes::VetoKind;
 
+// What a line asks of a session.
 #[derive(Clone, Copy)]
 pub enum Call<'a> {
+    Open(OpenCall<'a>),
+    Tell(TellCall),
+    // Repair begins.
+    Repair,
+}
+
+// What only an open session is asked, and what it tells.
+#[derive(Clone, Copy)]
+pub enum OpenCall<'a> {
     Reserve(&'a [u8]),
     // Without a kind the chunk tells it.
     Root(SymbolRef, Option<RootBindingKind>),
@@ -22,18 +32,16 @@ pub enum Call<'a> {
     VetoNone,
     // So many searches.
     Policy(&'a [u8], u32),
+    Records,
+    Tell(TellCall),
+}
+
+// What every session tells.
+#[derive(Clone, Copy)]
+pub enum TellCall {
     Printed(SymbolRef),
     // With a buffer of so many places, or else of as many as are needed.
     Names(Option<u32>),
-    Records,
-    Repair,
-}
-
-impl Call<'_> {
-    // Whether the call can be made once repair began.
-    pub fn is_for_repair(&self) -> bool {
-        matches!(self, Call::Printed(_) | Call::Names(_))
-    }
 }
 
 fn root_kind(word: &[u8]) -> Result<RootBindingKind, Fault> {
@@ -44,10 +52,10 @@ fn root_kind(word: &[u8]) -> Result<RootBindingKind, Fault> {
     }
 }
 
-fn root<'a>(words: &[&'a [u8]]) -> Result<Call<'a>, Fault> {
+fn root<'a>(words: &[&'a [u8]]) -> Result<OpenCall<'a>, Fault> {
     match words {
-        [symbol] => Ok(Call::Root(symbol_in(symbol)?, None)),
-        [symbol, kind] => Ok(Call::Root(symbol_in(symbol)?, Some(root_kind(kind)?))),
+        [symbol] => Ok(OpenCall::Root(symbol_in(symbol)?, None)),
+        [symbol, kind] => Ok(OpenCall::Root(symbol_in(symbol)?, Some(root_kind(kind)?))),
         _ => Err(Fault::WrongWords),
     }
 }
@@ -61,32 +69,36 @@ fn veto_kind(word: &[u8]) -> Result<VetoKind, Fault> {
     }
 }
 
-fn veto<'a>(words: &[&'a [u8]]) -> Result<Call<'a>, Fault> {
+fn veto<'a>(words: &[&'a [u8]]) -> Result<OpenCall<'a>, Fault> {
     match words {
         [which] => {
             let all = either(which, b"all", b"none")?;
-            Ok(if all { Call::VetoAll } else { Call::VetoNone })
+            Ok(if all {
+                OpenCall::VetoAll
+            } else {
+                OpenCall::VetoNone
+            })
         }
-        [kind, name] => Ok(Call::Veto(veto_kind(kind)?, name)),
+        [kind, name] => Ok(OpenCall::Veto(veto_kind(kind)?, name)),
         _ => Err(Fault::WrongWords),
     }
 }
 
-fn policy<'a>(words: &[&'a [u8]]) -> Result<Call<'a>, Fault> {
+fn policy<'a>(words: &[&'a [u8]]) -> Result<OpenCall<'a>, Fault> {
     match words {
-        [base] => Ok(Call::Policy(base, 1)),
+        [base] => Ok(OpenCall::Policy(base, 1)),
         [base, times] => match number_in(times)? {
             0 => Err(Fault::NoSuchWord),
-            times => Ok(Call::Policy(base, times)),
+            times => Ok(OpenCall::Policy(base, times)),
         },
         _ => Err(Fault::WrongWords),
     }
 }
 
-fn names<'a>(words: &[&'a [u8]]) -> Result<Call<'a>, Fault> {
+fn names(words: &[&[u8]]) -> Result<TellCall, Fault> {
     match words {
-        [] => Ok(Call::Names(None)),
-        [places] => Ok(Call::Names(Some(number_in(places)?))),
+        [] => Ok(TellCall::Names(None)),
+        [places] => Ok(TellCall::Names(Some(number_in(places)?))),
         _ => Err(Fault::WrongWords),
     }
 }
@@ -96,17 +108,18 @@ fn alone<'a>(call: Call<'a>, words: &[&'a [u8]]) -> Result<Call<'a>, Fault> {
     Ok(call)
 }
 
-fn spoken<'a>(verb: &[u8], words: &[&'a [u8]]) -> Result<Call<'a>, Fault> {
+// The call that begins with this word.
+fn call_of<'a>(verb: &[u8], words: &[&'a [u8]]) -> Result<Call<'a>, Fault> {
     match verb {
-        b"reserve" => Ok(Call::Reserve(only_word(words)?)),
-        b"root" => root(words),
-        b"helper" => Ok(Call::Helper(only_word(words)?)),
-        b"require" => Ok(Call::Require(only_word(words)?)),
-        b"veto" => veto(words),
-        b"policy" => policy(words),
-        b"printed" => Ok(Call::Printed(symbol_in(only_word(words)?)?)),
-        b"names" => names(words),
-        b"records" => alone(Call::Records, words),
+        b"reserve" => Ok(Call::Open(OpenCall::Reserve(only_word(words)?))),
+        b"root" => Ok(Call::Open(root(words)?)),
+        b"helper" => Ok(Call::Open(OpenCall::Helper(only_word(words)?))),
+        b"require" => Ok(Call::Open(OpenCall::Require(only_word(words)?))),
+        b"veto" => Ok(Call::Open(veto(words)?)),
+        b"policy" => Ok(Call::Open(policy(words)?)),
+        b"printed" => Ok(Call::Tell(TellCall::Printed(symbol_in(only_word(words)?)?))),
+        b"names" => Ok(Call::Tell(names(words)?)),
+        b"records" => alone(Call::Open(OpenCall::Records), words),
         b"repair" => alone(Call::Repair, words),
         _ => Err(Fault::NoSuchLine),
     }
@@ -123,7 +136,7 @@ pub fn read_call<'a>(heap: Global, line: &'a [u8]) -> Result<Option<Call<'a>>, R
         return Err(ReadError::Line(Fault::StraySpace));
     }
     match words.as_slice() {
-        [verb, words @ ..] => Ok(Some(spoken(verb, words)?)),
+        [verb, words @ ..] => Ok(Some(call_of(verb, words)?)),
         [] => Ok(None),
     }
 }

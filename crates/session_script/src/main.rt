@@ -6,20 +6,12 @@ mod document;
 mod open;
 mod print;
 mod repairing;
+mod script;
 
-use document::answer_all;
-use std::io::{Read, Write};
+use document::answer;
+use documents::answers::answer_input;
+use std::io;
 
-fn run(rt: &HostRuntime) -> anyhow::Result<()> {
-    let heap = rt.alloc();
-    let mut input = Vec::new(heap);
-    rt.stdin().read_to_end(&mut input)?;
-    let mut out = Vec::new(heap);
-    answer_all(heap, &input, &mut out)?;
-    rt.stdout().write_all(&out)?;
-    Ok(())
-}
-
-fn main(rt: HostRuntime) -> anyhow::Result<()> {
-    run(&rt)
+fn main(rt: HostRuntime) -> io::Result<()> {
+    answer_input(rt.alloc(), &mut rt.stdin(), &mut rt.stdout(), answer)
 }

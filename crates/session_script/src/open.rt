@@ -1,94 +1,119 @@
-// The calls of an open session.
-use crate::call::Call;
+// A session as long as it is open.
+use crate::call::{OpenCall, TellCall};
 use crate::print;
 use chunk_tables::kind::RootBindingKind;
 use conflict_resolver::resolver::Resolved;
-use given_names::NamedSymbol;
 use hints::require_hint;
 use keys::refs::SymbolRef;
 use names::refusal::Refusal;
 use renamer::renamer::Renamer;
-use std::alloc::Global;
-use std::io;
+use renamer::repairing::NestedScopeRenamer;
+use std::alloc::{AllocError, Global};
 use vetoes::{Veto, VetoKind, Vetoes};
 
-// A helper for another chunk of this name.
-fn require(renamer: &mut Renamer, chunk_name: &[u8]) -> Result<Resolved, Refusal> {
-    let hint = require_hint(chunk_name)?;
-    renamer.create_conflictless_name(hint.as_bytes())
+// With what `policy` vetoes.
+#[derive(Drop)]
+pub struct OpenSession {
+    renamer: Renamer,
+    vetoes: Vetoes,
 }
 
-// The last of so many answers, and at least one.
-fn search(
-    renamer: &mut Renamer,
-    base: &[u8],
-    times: u32,
-    vetoes: &Vetoes,
-) -> Result<Resolved, Refusal> {
-    for _ in 1..times {
-        let _ = renamer.resolve(base, vetoes);
+impl OpenSession {
+    // Nothing is vetoed yet.
+    pub fn new(heap: Global, renamer: Renamer) -> OpenSession {
+        OpenSession {
+            renamer,
+            vetoes: Vetoes::none(heap),
+        }
     }
-    renamer.resolve(base, vetoes)
-}
 
-fn name_root(
-    renamer: &mut Renamer,
-    symbol: SymbolRef,
-    kind: Option<RootBindingKind>,
-    out: &mut Vec<u8>,
-) -> io::Result<()> {
-    let kind = kind.unwrap_or(renamer.chunk().root_binding_kind(symbol));
-    let answer = renamer.add_symbol_in_root_scope(symbol, kind);
-    print::root(symbol, answer, out)
-}
-
-fn add_veto(vetoes: &mut Vetoes, kind: VetoKind, name: &[u8], out: &mut Vec<u8>) -> io::Result<()> {
-    match Veto::new(kind, name) {
-        Ok(veto) => Ok(vetoes.add(veto)?),
-        Err(refusal) => print::text_refused(b"veto", name, refusal, out),
+    // A helper for another chunk of this name.
+    fn require(&mut self, chunk_name: &[u8]) -> Result<Resolved, Refusal> {
+        let hint = require_hint(chunk_name)?;
+        self.renamer.create_conflictless_name(hint.as_bytes())
     }
-}
 
-pub fn perform(
-    heap: Global,
-    renamer: &mut Renamer,
-    vetoes: &mut Vetoes,
-    call: Call<'_>,
-    out: &mut Vec<u8>,
-) -> io::Result<()> {
-    match call {
-        Call::Repair => Ok(()),
-        Call::Reserve(name) => match renamer.reserve(name) {
+    // The last of so many answers, and at least one.
+    fn search(&mut self, base: &[u8], times: u32) -> Result<Resolved, Refusal> {
+        for _ in 1..times {
+            let _ = self.renamer.resolve(base, &self.vetoes);
+        }
+        self.renamer.resolve(base, &self.vetoes)
+    }
+
+    fn reserve(&mut self, name: &[u8], out: &mut Vec<u8>) -> Result<(), AllocError> {
+        match self.renamer.reserve(name) {
             Ok(()) => Ok(()),
             Err(refusal) => print::text_refused(b"reserve", name, refusal, out),
-        },
-        Call::Root(symbol, kind) => name_root(renamer, symbol, kind, out),
-        Call::Helper(hint) => {
-            let answer = renamer.create_conflictless_name(hint);
-            print::search(b"helper", hint, answer, out)
         }
-        Call::Require(name) => print::search(b"require", name, require(renamer, name), out),
-        Call::Veto(kind, name) => add_veto(vetoes, kind, name, out),
-        Call::VetoAll => {
-            vetoes.add_all();
-            Ok(())
+    }
+
+    // Without a kind the chunk tells it.
+    fn name_root(
+        &mut self,
+        symbol: SymbolRef,
+        kind: Option<RootBindingKind>,
+        out: &mut Vec<u8>,
+    ) -> Result<(), AllocError> {
+        let kind = kind.unwrap_or(self.renamer.chunk().root_binding_kind(symbol));
+        let answer = self.renamer.add_symbol_in_root_scope(symbol, kind);
+        print::root(symbol, answer, out)
+    }
+
+    fn veto(&mut self, kind: VetoKind, name: &[u8], out: &mut Vec<u8>) -> Result<(), AllocError> {
+        match Veto::new(kind, name) {
+            Ok(veto) => self.vetoes.add(veto),
+            Err(refusal) => print::text_refused(b"veto", name, refusal, out),
         }
-        Call::VetoNone => {
-            vetoes.clear();
-            Ok(())
+    }
+
+    fn tell(&self, heap: Global, call: TellCall, out: &mut Vec<u8>) -> Result<(), AllocError> {
+        match call {
+            TellCall::Printed(symbol) => {
+                print::printed(symbol, self.renamer.printed_name(symbol), out)
+            }
+            TellCall::Names(places) => {
+                let mut rows = print::name_rows(heap, places, self.renamer.named())?;
+                let count = self.renamer.list(&mut rows);
+                print::names(count, &rows, out)
+            }
         }
-        Call::Policy(base, times) => {
-            let answer = search(renamer, base, times, vetoes);
-            print::search(b"policy", base, answer, out)
+    }
+
+    pub fn perform(
+        &mut self,
+        heap: Global,
+        call: OpenCall<'_>,
+        out: &mut Vec<u8>,
+    ) -> Result<(), AllocError> {
+        match call {
+            OpenCall::Reserve(name) => self.reserve(name, out),
+            OpenCall::Root(symbol, kind) => self.name_root(symbol, kind, out),
+            OpenCall::Helper(hint) => {
+                let answer = self.renamer.create_conflictless_name(hint);
+                print::search(b"helper", hint, answer, out)
+            }
+            OpenCall::Require(name) => print::search(b"require", name, self.require(name), out),
+            OpenCall::Veto(kind, name) => self.veto(kind, name, out),
+            OpenCall::VetoAll => {
+                self.vetoes.add_all();
+                Ok(())
+            }
+            OpenCall::VetoNone => {
+                self.vetoes.clear();
+                Ok(())
+            }
+            OpenCall::Policy(base, times) => {
+                print::search(b"policy", base, self.search(base, times), out)
+            }
+            OpenCall::Records => print::records(heap, &self.renamer, out),
+            OpenCall::Tell(call) => self.tell(heap, call, out),
         }
-        Call::Printed(symbol) => print::printed(symbol, renamer.printed_name(symbol), out),
-        Call::Names(places) => {
-            let places = places.map_or(renamer.named(), |places| places as usize);
-            let places = places.min(renamer.named());
-            let mut rows = vec![in heap; NamedSymbol::default(); places]?;
-            let count = renamer.list(&mut rows);
-            print::names(count, &rows, out)
-        }
-        Call::Records => print::records(heap, renamer, out),
+    }
+
+    // The names are given, and the vetoes go.
+    pub fn start_repair(self) -> NestedScopeRenamer {
+        let OpenSession { renamer, .. } = self;
+        renamer.start_repair()
     }
 }

@@ -1,26 +1,21 @@
-// The calls of a session whose roots are named.
-use crate::call::Call;
+// What a session tells whose roots are named.
+use crate::call::TellCall;
 use crate::print;
-use given_names::NamedSymbol;
 use renamer::repairing::NestedScopeRenamer;
-use std::alloc::Global;
-use std::io;
+use std::alloc::{AllocError, Global};
 
-pub fn perform(
+pub fn tell(
     heap: Global,
     renamer: &NestedScopeRenamer,
-    call: Call<'_>,
+    call: TellCall,
     out: &mut Vec<u8>,
-) -> io::Result<()> {
+) -> Result<(), AllocError> {
     match call {
-        Call::Printed(symbol) => print::printed(symbol, renamer.printed_name(symbol), out),
-        Call::Names(places) => {
-            let places = places.map_or(renamer.named(), |places| places as usize);
-            let places = places.min(renamer.named());
-            let mut rows = vec![in heap; NamedSymbol::default(); places]?;
+        TellCall::Printed(symbol) => print::printed(symbol, renamer.printed_name(symbol), out),
+        TellCall::Names(places) => {
+            let mut rows = print::name_rows(heap, places, renamer.named())?;
             let count = renamer.list(&mut rows);
             print::names(count, &rows, out)
         }
-        _ => Ok(()),
     }
 }

@@ -1,0 +1,5 @@
+pub mod Answers
+pub mod Documents
+pub mod Records
+pub mod Searches
+pub mod View
