@@ -1,6 +1,6 @@
 use Rattle.std.proofs.Common.{◌+◌, get_or, sym, ◌∙◌, arith, rules}
 use Rattle.std.proofs.lemmas.Fn.{always_returns_same}
-use Rattle.keys.specs.Texts.{name_agrees}
+use Rattle.keys.specs.NameOrder.{name_agrees}
 use Rattle.documents.proofs.records.write_records.Goals as goal
 
 pub returns-clause-ascending : goal.returns-clause-ascending

@@ -2,7 +2,7 @@ use Rattle.std.proofs.Common.{◌≡◌, ◌<◌, length, take, drop, sym, refl,
 use mathlib.Core.Logic.{∥∥₁_elim}
 use Rattle.std.proofs.lemmas.Bool.{cases_eq}
 use Rattle.std.proofs.lemmas.List.{length-map}
-use Rattle.keys.specs.Texts.{name_order}
+use Rattle.keys.specs.NameOrder.{name_order}
 use Rattle.keyed_table.proofs.Listings.{listed}
 use Rattle.conflict_resolver.specs.Held.{rows, entries_of}
 use Rattle.conflict_resolver.specs.Rows.{name_of, row_of, record_in}

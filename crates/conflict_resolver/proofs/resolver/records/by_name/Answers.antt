@@ -4,7 +4,7 @@ use Rattle.std.specs.List.Sorted.{IsSortedByKey}
 use Rattle.std.specs.Cmp.Lexicographic.{slice_cmp}
 use Rattle.std.specs.Ordering.{nat_cmp, on}
 use Rattle.names.specs.Spelt.{spelt}
-use Rattle.keys.specs.Texts.{name_agrees}
+use Rattle.keys.specs.NameOrder.{name_agrees}
 use Rattle.conflict_resolver.specs.Rows.{name_of}
 use Rattle.conflict_resolver.proofs.resolver.records.by_name.Goals as goal
 
