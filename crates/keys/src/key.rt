@@ -3,8 +3,8 @@ ghost use Rattle.std.specs.Prelude.{◌≡◌, ℕ, Bool, Decides};
 ghost use Rattle.std.specs.Ordering.{partial_lt};
 ghost use Rattle.keys.specs.Order.{Strict};
 
-/// What a table needs to know of a key. That two keys are equal has to mean that nothing tells them apart: a table that finds
-/// the key keeps the one that came first, and no caller may see a difference.
+/// What a table needs to know of a key. That two keys are equal has to mean that nothing tells them apart: where a key is found
+/// its entry is replaced, key and all, and no caller may see a difference.
 pub trait HashKey: Eq {
     // The number that `hash` answers.
     ghost hashed: { Self → ℕ };
