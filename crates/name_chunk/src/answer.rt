@@ -8,7 +8,6 @@ use documents::document::DocumentLines;
 use renamer::renamer::Renamer;
 use session_memory::{make, sizes_for};
 use std::alloc::{AllocError, Global};
-use std::io;
 
 // Names the symbols of the chunk, and tells the names, the helpers and the records.
 fn name_symbols(heap: Global, renamer: &mut Renamer, out: &mut Vec<u8>) -> Result<(), AllocError> {
@@ -35,13 +34,17 @@ fn answer_chunk(heap: Global, document: Document, out: &mut Vec<u8>) -> Result<(
 }
 
 /// Where a line is faulty, that is the whole answer.
-pub fn answer(heap: Global, document: DocumentLines<'_, '_>, out: &mut Vec<u8>) -> io::Result<()> {
+pub fn answer(
+    heap: Global,
+    document: DocumentLines<'_, '_>,
+    out: &mut Vec<u8>,
+) -> Result<(), AllocError> {
     match read_document(heap, document.lines) {
-        Ok(document) => Ok(answer_chunk(heap, document, out)?),
+        Ok(document) => answer_chunk(heap, document, out),
         Err(DocumentError::Faulty(place, fault)) => {
             let number = document.number_at(place);
-            Ok(answer_lines::fault(number, fault.words(), out)?)
+            answer_lines::fault(number, fault.words(), out)
         }
-        Err(DocumentError::NoMemory) => Err(AllocError.into()),
+        Err(DocumentError::NoMemory) => Err(AllocError),
     }
 }
