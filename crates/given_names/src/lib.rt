@@ -9,11 +9,12 @@ use keyed_table::table::Table;
 use keys::refs::SymbolRef;
 use names::name::Name;
 
-pub mod methods;
+pub mod by_symbol;
 
-// A symbol with the name that it was given.
+/// A symbol with the name that it was given.
 pub type NamedSymbol = Entry<SymbolRef, Name>;
 
+/// The map from symbols to their names. A symbol in it keeps its name: whoever prints it may have been told already.
 #[derive(Drop)]
 pub struct GivenNames {
     names: Table<SymbolRef, Name>,
@@ -21,7 +22,7 @@ pub struct GivenNames {
     ghost distinct: { Distinct names.entries },
 }
 
-// Stands for how large a table of symbols can be: it has no more entries than its chunk has symbols.
+/// Stands for how large a table of symbols can be: it has no more entries than its chunk has symbols.
 pub fn laws<V>()
     ensures { FitsTheSymbols V }
 {}

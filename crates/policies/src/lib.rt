@@ -8,7 +8,7 @@ pub mod file_policy;
 pub mod inner_names;
 pub mod own_module;
 
-// Stands for what an inner name is: the name of an inner symbol of a chunk module.
+/// Stands for what an inner name is: the name of an inner symbol of a chunk module.
 pub fn laws()
     ensures of_symbols { NamesOfInnerSymbols }
     ensures no_others { NoOtherNames }

@@ -7,7 +7,13 @@ use chunk_tables::chunk::Chunk;
 use conflict_resolver::policy::Policy;
 use names::name::Name;
 
-// The chunk, and the number of the module that owns the symbol.
+/// The policy of a symbol that an author named. A bare name may be shadowed, as the author wrote that shadowing; a numbered form
+/// was not in the source, so whatever has its name there does not mean the symbol:
+///
+/// ```js
+/// import { now } from './clock.js'; // `now` is taken, and `now$1` is sought for this one
+/// function page(now$1) { return now$1 + now(); } // `now$1()` would call the parameter
+/// ```
 #[derive(Clone, Copy)]
 pub struct OwnModule<'a> {
     chunk: &'a Chunk,
@@ -15,6 +21,7 @@ pub struct OwnModule<'a> {
 }
 
 impl<'a> OwnModule<'a> {
+    /// Of the module with a number.
     pub fn new(chunk: &'a Chunk, owner: u32) -> OwnModule<'a>
         ensures { (result.chunk.now ≡ chunk.now) × (result.owner ≡ owner) }
     {

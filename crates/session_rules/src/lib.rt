@@ -4,7 +4,7 @@
 ghost use Rattle.session_rules.specs.Cases.{Worked};
 ghost use Rattle.session_rules.specs.Laws.{Kept, NothingElse, StaysOpened, Apart, Fresh, Unvetoed, FromItsOwnName, Bounded, Untouched, ReservedNeverGiven};
 
-// Stands for what holds of every list of calls of an open session, and for a worked session.
+/// Stands for what holds of every list of calls of an open session, and for a worked session.
 pub fn laws()
     ensures kept { Kept }
     ensures nothing_else { NothingElse }

@@ -1,4 +1,4 @@
-// What is asked of the given names, and how one is given.
+// The names by symbols: how one is given, and what is asked.
 ghost use Rattle.std.specs.Prelude.{◌≡◌, ◌<◌, ◌≤◌, true, [], length, is_some, is_ok, vec_len, MatchResult};
 ghost use Rattle.std.specs.Option.{option_map};
 ghost use Rattle.std.specs.List.{slice_get};
@@ -21,7 +21,7 @@ use names::refusal::Refusal;
 use session_memory::memory::NameSlot;
 
 impl GivenNames {
-    // No symbol has a name yet; each slot is emptied.
+    /// No symbol has a name yet; each slot is emptied, whatever an earlier session left in it.
     pub fn new(slots: Vec<NameSlot>) -> GivenNames
         ensures empty { given_in result ≡ [] }
         ensures room { room_for result ≡ vec_len slots }
@@ -31,7 +31,7 @@ impl GivenNames {
         GivenNames { names }
     }
 
-    // How many symbols have a name.
+    /// How many symbols have a name.
     pub fn len(&self) -> usize
         ensures { result ≡ length (given_in self.now) }
     {
@@ -45,14 +45,15 @@ impl GivenNames {
         self.names.entry(i)
     }
 
-    // The name of a symbol, if it has one.
+    /// The name of a symbol, if it has one.
     pub fn name_of(&self, symbol: SymbolRef) -> Option<Name>
         ensures { option_map spelt result ≡ name_given (given_in self.now) symbol }
     {
         self.names.find(&symbol)
     }
 
-    // Gives a symbol that has no name this one. A symbol that has a name keeps it.
+    /// Gives a symbol that has no name this one. A symbol that has a name keeps it. There is a place for each symbol of a chunk
+    /// where the memory has as many, so only a caller who names other symbols, or has less memory, is refused.
     pub fn give(&mut self, symbol: SymbolRef, name: Name) -> Result<(), Refusal>
         ensures given { MatchResult result (λ _. given_in self.new ≡ naming (given_in self.old) symbol (spelt name)) (λ e. (number_of e ≡ 10) × NoPlace self.old symbol × (self.new ≡ self.old)) }
         ensures room { room_for self.new ≡ room_for self.old }
@@ -64,14 +65,14 @@ impl GivenNames {
         self.names.insert(symbol, name)
     }
 
-    // Writes the symbols with their names to the front of `out`, ascending by the symbols, and answers how many there are.
+    /// Writes the symbols with their names to the front of `out`, ascending by the symbols, and answers how many there are.
     pub fn list(&self, out: &mut [NamedSymbol]) -> Result<usize, Refusal>
         ensures { MatchResult result (Listed key_of symbol_under (entries_of self.now) out.old out.new) (λ e. (number_of e ≡ 15) × (length out.old < length (given_in self.now)) × (out.new ≡ out.old)) }
     {
         self.names.list(out)
     }
 
-    // The memory, as it is.
+    /// Ends the map, and gives back its memory, as it is.
     pub fn into_slots(self) -> Vec<NameSlot>
         ensures memory { result.items ≡ self.names.memory }
         ensures room { vec_len result ≡ room_for self }
