@@ -1,1 +1,3 @@
+mod Drawings
+mod Numbers
 mod Turns

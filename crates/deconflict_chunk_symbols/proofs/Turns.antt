@@ -1,8 +1,11 @@
 -- Calls of one list after those of another, and the turns of a loop over a list of which each element asks for calls. Assumes
 -- nothing.
-use Rattle.std.proofs.Common.{◌≡◌, ℕ, ◌+◌, ◌<◌, ◌≤◌, List, [], ◌∷◌, ◌++◌, flat_map, length, get_or, drop, Ok, Err, Result, sym, refl, ap, subst, ◌∙◌}
+use Rattle.std.proofs.Common.{◌≡◌, ℕ, ◌+◌, ◌<◌, ◌≤◌, List, [], ◌∷◌, ◌++◌, flat_map, map, length, get_or, drop, Ok, Err, Result, sym, refl, ap, subst, ◌∙◌}
+use native.Mathlib.Nat.{zero-add}
+use Rattle.std.specs.List.{range_with_len}
 use Rattle.std.proofs.lemmas.List.{at_drop_more, at_drop_all}
-use Rattle.names.specs.Refusals.{number_of}
+use Rattle.std.proofs.lemmas.List.Folds.{flat_map-map}
+use Rattle.std.proofs.lemmas.List.FromFn.{length-range_with_len, get_or-range_with_len}
 use Rattle.names.specs.declared.refusal.Refusal.{Refusal}
 use Rattle.chunk_tables.specs.Model.{Chunk}
 use Rattle.chunk_tables.specs.View.{chunk_of}
@@ -11,7 +14,7 @@ use Rattle.chunk_tables.specs.declared.kind.RootBindingKind.{RootBindingKind}
 use Rattle.session_rules.specs.Calls.{Call, root, told}
 use Rattle.session_rules.specs.Rules.{Answer, given, already, agreed, declines, answers, root_named}
 use Rattle.session_rules.specs.Session.{Session}
-use Rattle.renamer.specs.Answers.{told_name}
+use Rattle.renamer.specs.Answers.{told_name, told_end}
 use Rattle.renamer.specs.State.{chunk_in, session_of, Stays, Keeps}
 use Rattle.renamer.specs.declared.renamer.Renamer.{Renamer}
 use Rattle.renamer.specs.declared.renamer.naming.TopLevelName.{TopLevelName}
@@ -42,10 +45,10 @@ stays_on h g = record {
   marks = g.marks ∙ h.marks;
 }
 
-keeps_all : (r : Renamer) → Keeps r r
+pub keeps_all : (r : Renamer) → Keeps r r
 keeps_all r = record { stays = stays_all r; helpers = refl }
 
-keeps_on : {r s t : Renamer} → Keeps r s → Keeps s t → Keeps r t
+pub keeps_on : {r s t : Renamer} → Keeps r s → Keeps s t → Keeps r t
 keeps_on h g = record { stays = stays_on h.stays g.stays; helpers = g.helpers ∙ h.helpers }
 
 pub same_tables : {r s : Renamer} → Stays r s → chunk_in s ≡ chunk_in r
@@ -75,6 +78,15 @@ goes_on {r = r} {s = s} {xs = xs} {ys = ys} h k = record {
   keeps = keeps_on h.keeps k.keeps;
 }
 
+-- calls that a later session performs, told of the tables of an earlier one
+pub carried : (calls : Chunk → List Call) {r s t : Renamer} {o : Result (Unit {0}) Refusal} → Keeps r s → Performs s t o (calls (chunk_in s)) → Performs s t o (calls (chunk_in r))
+carried calls h k = as_seen _ (ap calls (same_tables h.stays)) k
+
+-- calls for the elements of a list that was read from the tables of the earlier one
+pub carried_list : {X : Type 0} (calls : Chunk → X → List Call) {x y : X} {r s t : Renamer} {o : Result (Unit {0}) Refusal} → Keeps r s → x ≡ y → Performs s t o (calls (chunk_in s) x)
+    → Performs s t o (calls (chunk_in r) y)
+carried_list calls {x} {y} {r} h e k = as_seen _ (ap (calls (chunk_in r)) e) (carried (λ c. calls c x) h k)
+
 -- a naming call that is granted, and one that is refused
 pub named : {r s : Renamer} (n : TopLevelName) (q : SymbolRef) (k : RootBindingKind) → told_name (Ok n) (session_of s) ≡ root_named (chunk_in r) (session_of r) q k → Keeps r s
     → Performs r s (Ok tt) (root q k ∷ [])
@@ -88,36 +100,70 @@ pub declined : {r s : Renamer} (e : Refusal) (q : SymbolRef) (k : RootBindingKin
     → Performs r s (Err e) (root q k ∷ [])
 declined e q k f h = record { rules = ap (λ t. then_on t (λ T. answers agreed T)) f; keeps = h }
 
--- ---- loops
+-- ---- a loop over a list
 
-pub at_first : (r : Renamer) (all : List Call) → Midway r r all all
-at_first r all = record { rules = refl; keeps = keeps_all r }
+module _ {X : Type 0} (calls : Chunk → X → List Call) (xs : List X) where
+  pub at_first : (r : Renamer) → Midway calls xs 0 r r
+  at_first r = record { rules = refl; keeps = keeps_all r }
 
-module _ {r s t : Renamer} {left all here more : List Call} (h : Midway r s left all) (next : left ≡ here ++ more) where
-  whole : perform_each (chunk_in s) (session_of s) (here ++ more) ≡ perform_each (chunk_in r) (session_of r) all
-  whole = ap (λ xs. perform_each (chunk_in s) (session_of s) xs) (sym next) ∙ ap (λ c. perform_each c (session_of s) left) (same_tables h.keeps.stays) ∙ h.rules
+  module _ {r s : Renamer} {i : ℕ} (h : Midway calls xs i r s) where
+    abbrev f : X → List Call
+    f = calls (chunk_in r)
 
-  -- the next calls are granted
-  pub turn : Performs s t (Ok tt) here → Midway r t more all
-  turn k = record {
-    rules =
-        ap (λ c. perform_each c (session_of t) more) (sym (same_tables h.keeps.stays))
-        ∙ ap (λ a. then_on a (λ T. perform_each (chunk_in s) T more)) k.rules ∙ sym (perform_append (chunk_in s) (session_of s) here more) ∙ whole;
-    keeps = keeps_on h.keeps k.keeps;
-  }
+    -- the calls that are left, where x is the next element
+    module _ (x : X) (l : i < length xs) where
+      abbrev here : List Call
+      here = f (get_or xs i x)
 
-  -- the next calls are refused
-  pub stop : (e : Refusal) → Performs s t (Err e) here → Performs r t (Err e) all
-  stop e k = record { rules = (ends more k).rules ∙ whole; keeps = keeps_on h.keeps k.keeps }
+      abbrev more : List Call
+      more = flat_map f (drop (i + 1) xs)
 
--- no calls are left
-pub done : {r s : Renamer} {left all : List Call} → Midway r s left all → left ≡ [] → Performs r s (Ok tt) all
-done {r} {s} h none = record { rules = ap (λ xs. perform_each (chunk_in r) (session_of s) xs) (sym none) ∙ h.rules; keeps = h.keeps }
+      whole : perform_each (chunk_in r) (session_of s) (here ++ more) ≡ perform_each (chunk_in r) (session_of r) (flat_map f xs)
+      whole = ap (perform_each (chunk_in r) (session_of s)) (sym (at_drop_more (flat_map f) xs i x l)) ∙ h.rules
 
--- the calls that the elements from a place on ask for
-module _ {X : Type 0} (f : X → List Call) (xs : List X) (i : ℕ) where
-  pub from_here : (x : X) → i < length xs → x ≡ get_or xs i x → flat_map f (drop i xs) ≡ f x ++ flat_map f (drop (i + 1) xs)
-  from_here x l is = at_drop_more (flat_map f) xs i x l ∙ ap (λ y. f y ++ flat_map f (drop (i + 1) xs)) (sym is)
+      seen : {t : Renamer} {o : Result (Unit {0}) Refusal} → Performs s t o (calls (chunk_in s) (get_or xs i x)) → told_end o (session_of t) ≡ perform_each (chunk_in r) (session_of s) here
+      seen k = k.rules ∙ ap (λ c. perform_each c (session_of s) (calls c (get_or xs i x))) (same_tables h.keeps.stays)
 
-  pub none_left : length xs ≤ i → flat_map f (drop i xs) ≡ []
-  none_left l = at_drop_all (flat_map f) xs i l
+      joined : {t : Renamer} {o : Result (Unit {0}) Refusal} → Performs s t o (calls (chunk_in s) (get_or xs i x))
+          → then_on (told_end o (session_of t)) (λ T. perform_each (chunk_in r) T more) ≡ perform_each (chunk_in r) (session_of r) (flat_map f xs)
+      joined k = ap (λ a. then_on a (λ T. perform_each (chunk_in r) T more)) (seen k) ∙ sym (perform_append (chunk_in r) (session_of s) here more) ∙ whole
+
+      -- the next calls are granted, and refused
+      pub turn : {t : Renamer} → Performs s t (Ok tt) (calls (chunk_in s) (get_or xs i x)) → Midway calls xs (i + 1) r t
+      turn k = record { rules = joined k; keeps = keeps_on h.keeps k.keeps }
+
+      pub stop : {t : Renamer} {e : Refusal} → Performs s t (Err e) (calls (chunk_in s) (get_or xs i x)) → Performs r t (Err e) (flat_map f xs)
+      stop k = record { rules = joined k; keeps = keeps_on h.keeps k.keeps }
+
+    -- none is left
+    pub done : length xs ≤ i → Performs r s (Ok tt) (flat_map f xs)
+    done l = record { rules = ap (perform_each (chunk_in r) (session_of s)) (sym (at_drop_all (flat_map f) xs i l)) ∙ h.rules; keeps = h.keeps }
+
+-- ---- a loop over a list of which each element is viewed by v
+
+module _ {X Y : Type 0} (v : X → Y) (calls : Chunk → Y → List Call) (xs : List X) {r s : Renamer} {i : ℕ} (h : Midway (λ c x. calls c (v x)) xs i r s) where
+  module _ (x : X) (l : i < length xs) (is : x ≡ get_or xs i x) where
+    in_place : {t : Renamer} {o : Result (Unit {0}) Refusal} → Performs s t o (calls (chunk_in s) (v x)) → Performs s t o (calls (chunk_in s) (v (get_or xs i x)))
+    in_place k = as_seen _ (ap (λ y. calls (chunk_in s) (v y)) is) k
+
+    pub turn_viewed : {t : Renamer} → Performs s t (Ok tt) (calls (chunk_in s) (v x)) → Midway (λ c y. calls c (v y)) xs (i + 1) r t
+    turn_viewed k = turn (λ c y. calls c (v y)) xs h x l (in_place k)
+
+    pub stop_viewed : {t : Renamer} {e : Refusal} → Performs s t (Err e) (calls (chunk_in s) (v x)) → Performs r t (Err e) (flat_map (calls (chunk_in r)) (map v xs))
+    stop_viewed k = as_seen _ (sym (flat_map-map (calls (chunk_in r)) v xs)) (stop (λ c y. calls c (v y)) xs h x l (in_place k))
+
+  pub done_viewed : length xs ≤ i → Performs r s (Ok tt) (flat_map (calls (chunk_in r)) (map v xs))
+  done_viewed l = as_seen _ (sym (flat_map-map (calls (chunk_in r)) v xs)) (done (λ c y. calls c (v y)) xs h l)
+
+-- ---- a loop over the numbers below n
+
+module _ (n i : ℕ) where
+  pub in_range : i < n → i < length (range_with_len 0 n)
+  in_range l = subst (λ k. i < k) (sym (length-range_with_len 0 n)) l
+
+  pub past_range : n ≤ i → length (range_with_len 0 n) ≤ i
+  past_range l = subst (λ k. k ≤ i) (sym (length-range_with_len 0 n)) l
+
+  pub of_number : (calls : Chunk → ℕ → List Call) → i < n → {s t : Renamer} {o : Result (Unit {0}) Refusal} → Performs s t o (calls (chunk_in s) i)
+      → Performs s t o (calls (chunk_in s) (get_or (range_with_len 0 n) i 0))
+  of_number calls l {s} h = as_seen (calls (chunk_in s) (get_or (range_with_len 0 n) i 0)) (ap (calls (chunk_in s)) (sym (get_or-range_with_len 0 n i 0 l ∙ zero-add i))) h

@@ -1,5 +1,5 @@
 -- Calls performed one after another on an open session. Assumes nothing.
-use Rattle.std.specs.Prelude.{◌≡◌, List, [], ◌∷◌, Result}
+use Rattle.std.specs.Prelude.{◌≡◌, ℕ, List, [], ◌∷◌, Result, flat_map, drop}
 use Rattle.names.specs.declared.refusal.Refusal.{Refusal}
 use Rattle.chunk_tables.specs.Model.{Chunk}
 use Rattle.session_rules.specs.Calls.{Call, told}
@@ -29,7 +29,10 @@ pub record Performs (r s : Renamer) (answer : Result (Unit {0}) Refusal) (calls 
   pub rules : told_end answer (session_of s) ≡ perform_each (chunk_in r) (session_of r) calls
   pub keeps : Keeps r s
 
--- on the way from the session r the calls that are left to the session s come to what all come to
-pub record Midway (r s : Renamer) (left all : List Call) : Type 0 where
-  pub rules : perform_each (chunk_in r) (session_of s) left ≡ perform_each (chunk_in r) (session_of r) all
+-- in a loop over a list of which each element asks for calls: those of the elements from the place i on, performed on the
+-- session s, come to what those of all come to on the session r of the start
+pub record Midway {X : Type 0} (calls : Chunk → X → List Call) (xs : List X) (i : ℕ) (r s : Renamer) : Type 0 where
+  pub rules :
+      perform_each (chunk_in r) (session_of s) (flat_map (calls (chunk_in r)) (drop i xs))
+      ≡ perform_each (chunk_in r) (session_of r) (flat_map (calls (chunk_in r)) xs)
   pub keeps : Keeps r s

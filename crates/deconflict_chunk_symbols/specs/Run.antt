@@ -12,9 +12,7 @@ use Rattle.chunk_tables.specs.Kinds.{facade, kind_of}
 use Rattle.chunk_tables.specs.Links.{canonical}
 use Rattle.chunk_tables.specs.Lists.{maybe}
 use Rattle.chunk_tables.specs.Model.{Statement, Module, OtherChunk, Chunk}
-use Rattle.hints.specs.Hints.{hint}
-use Rattle.session_rules.specs.Calls.{Call, root, helper}
-use Rattle.session_rules.specs.Helpers.{Helper, helper_of}
+use Rattle.session_rules.specs.Calls.{Call, root}
 use Rattle.session_rules.specs.Session.{same_symbol}
 
 abbrev pub is_esm : Chunk → Bool
@@ -113,14 +111,3 @@ import_calls c = flat_map (imported_from c) c.others
 -- the calls that name symbols
 abbrev pub naming_calls : Chunk → List Call
 naming_calls c = namespace_calls c ++ (entry_calls c ++ (used_calls c ++ (members_calls c ++ (synthetic_calls c ++ import_calls c))))
-
--- 7. a helper for each other chunk that has none yet, hs being those that there are
-abbrev pub helper_call : List Helper → OtherChunk → List Call
-helper_call hs o = maybe (helper_of hs o.number) (helper (hint o.name) ∷ []) (λ n. [])
-
-abbrev pub helper_calls : Chunk → List Helper → List Call
-helper_calls c hs = flat_map (helper_call hs) c.others
-
--- the run of a chunk
-abbrev pub run_calls : Chunk → List Helper → List Call
-run_calls c hs = naming_calls c ++ helper_calls c hs

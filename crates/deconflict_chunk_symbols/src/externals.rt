@@ -75,10 +75,10 @@ fn is_used(chunk: &Chunk, symbol: SymbolRef) -> bool
 }
 
 // How many symbols a module has.
-fn symbol_count(chunk: &Chunk, owner: u32) -> u32
-    ensures { result ≡ symbols_of (chunk_of chunk.now) owner }
+fn symbol_count(renamer: &Renamer<'_>, owner: u32) -> u32
+    ensures { result ≡ symbols_of (chunk_in renamer.now) owner }
 {
-    match chunk.module_at(owner as usize) {
+    match renamer.chunk().module_at(owner as usize) {
         Some(module) => module.symbols.len() as u32,
         None => 0,
     }
@@ -99,7 +99,7 @@ fn name_used(renamer: &mut Renamer<'_>, owner: u32, symbol: u32) -> Result<(), R
 fn name_used_of(renamer: &mut Renamer<'_>, owner: u32) -> Result<(), Refusal>
     ensures { Performs renamer.old renamer.new result (used_of (chunk_in renamer.old) owner) }
 {
-    for symbol in 0..symbol_count(renamer.chunk(), owner) {
+    for symbol in 0..symbol_count(renamer, owner) {
         name_used(renamer, owner, symbol)?;
     }
     Ok(())
