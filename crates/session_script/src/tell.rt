@@ -1,12 +1,12 @@
-// What a session tells whose roots are named.
+// What a session tells in every state.
 use crate::call::TellCall;
 use crate::print;
-use renamer::repairing::NestedScopeRenamer;
+use renamer::renamer::Renamer;
 use std::alloc::{AllocError, Global};
 
 pub fn tell(
     heap: Global,
-    renamer: &NestedScopeRenamer,
+    renamer: &Renamer<'_>,
     call: TellCall,
     out: &mut Vec<u8>,
 ) -> Result<(), AllocError> {
