@@ -4,6 +4,7 @@ use crate::print;
 use renamer::renamer::Renamer;
 use std::alloc::{AllocError, Global};
 
+/// What a call answers that changes nothing. A session in repair tells what an open one does, so there is one function for both.
 pub fn tell(
     heap: Global,
     renamer: &Renamer<'_>,
