@@ -7,6 +7,7 @@ use Rattle.names.specs.declared.refusal.Refusal.{Refusal}
 use Rattle.keys.specs.declared.refs.ChunkIdx.{ChunkIdx}
 use Rattle.keys.specs.declared.refs.SymbolRef.{SymbolRef}
 use Rattle.keyed_table.specs.declared.slot.Entry.{Entry}
+use Rattle.conflict_resolver.specs.declared.resolver.NameRecord.{NameRecord}
 
 -- the text, and a line end behind it
 abbrev pub line : List ℕ → List ℕ
@@ -25,13 +26,13 @@ abbrev pub refused_line : Refusal → List ℕ
 refused_line r = line (codes "refused " ++ decimal (number_of r) ++ 32 ∷ words_of r)
 
 -- the number of another chunk, and the name of its helper
-abbrev pub helper_line : ChunkIdx → List ℕ → List ℕ
-helper_line chunk name = line (codes "helper " ++ decimal chunk.0 ++ 32 ∷ name)
+abbrev pub helper_line : Entry ChunkIdx Name → List ℕ
+helper_line row = line (codes "helper " ++ decimal row.key.0 ++ 32 ∷ spelt row.value)
 
 -- the name of a symbol, by module and number
 abbrev pub name_line : Entry SymbolRef Name → List ℕ
 name_line row = line (codes "name " ++ decimal row.key.owner ++ 32 ∷ decimal row.key.symbol ++ 32 ∷ spelt row.value)
 
 -- a name on record, and its counter
-abbrev pub record_line : Entry Name ℕ → List ℕ
-record_line row = line (codes "record " ++ spelt row.key ++ 32 ∷ decimal row.value)
+abbrev pub record_line : NameRecord → List ℕ
+record_line row = line (codes "record " ++ spelt row.name ++ 32 ∷ decimal row.counter)

@@ -1,13 +1,12 @@
 // The lines that programs answer. They are bytes, since a name need not be UTF-8.
 #![tactic(auto)]
 
-ghost use Rattle.answer_lines.specs.Lines.{line, done_line, fault_line, refused_line, helper_line};
+ghost use Rattle.answer_lines.specs.Lines.{line, done_line, fault_line, refused_line};
 ghost use Rattle.answer_lines.specs.Writing.{Writes};
 ghost use Rattle.names.specs.Spelt.{spelt};
 
 use crate::piece::write_each;
 use itoa::Buffer;
-use keys::refs::ChunkIdx;
 use names::name::Name;
 use names::refusal::Refusal;
 use std::alloc::AllocError;
@@ -44,16 +43,6 @@ pub fn refused(refusal: Refusal, out: &mut Vec<u8>) -> Result<(), AllocError>
     let number = digits.format(refusal.number()).as_bytes();
     let begin: &[u8] = b"refused ";
     write_each(&[begin, number, b" ", refusal.words().as_bytes(), END], out)
-}
-
-/// The name of the helper that requires another chunk.
-pub fn helper(chunk: ChunkIdx, name: &Name, out: &mut Vec<u8>) -> Result<(), AllocError>
-    ensures { Writes out.old out.new result (helper_line chunk (spelt name.now)) }
-{
-    let mut digits = Buffer::new();
-    let number = digits.format(chunk.0).as_bytes();
-    let begin: &[u8] = b"helper ";
-    write_each(&[begin, number, b" ", name.as_bytes(), END], out)
 }
 
 /// The last line of a document's answer. An answer without it was cut off.

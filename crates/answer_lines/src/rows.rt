@@ -1,11 +1,12 @@
 // The rows of listings as lines.
-ghost use Rattle.answer_lines.specs.Lines.{name_line, record_line};
+ghost use Rattle.answer_lines.specs.Lines.{name_line, helper_line, record_line};
 
 use crate::END;
 use crate::piece::{Piece, write_each};
+use conflict_resolver::resolver::NameRecord;
 use itoa::Buffer;
 use keyed_table::slot::Entry;
-use keys::refs::SymbolRef;
+use keys::refs::{ChunkIdx, SymbolRef};
 use names::name::Name;
 use std::alloc::AllocError;
 
@@ -26,14 +27,26 @@ impl Piece for Entry<SymbolRef, Name> {
     }
 }
 
+// Another chunk by its number, and the name of the helper through which it is read.
+impl Piece for Entry<ChunkIdx, Name> {
+    ghost text = { helper_line };
+
+    fn write(&self, out: &mut Vec<u8>) -> Result<(), AllocError> {
+        let mut digits = Buffer::new();
+        let number = digits.format(self.key.0).as_bytes();
+        let begin: &[u8] = b"helper ";
+        write_each(&[begin, number, b" ", self.value.as_bytes(), END], out)
+    }
+}
+
 // A name on record, and its counter behind it.
-impl Piece for Entry<Name, u16> {
+impl Piece for NameRecord {
     ghost text = { record_line };
 
     fn write(&self, out: &mut Vec<u8>) -> Result<(), AllocError> {
         let mut digits = Buffer::new();
-        let counter = digits.format(self.value).as_bytes();
+        let counter = digits.format(self.counter).as_bytes();
         let begin: &[u8] = b"record ";
-        write_each(&[begin, self.key.as_bytes(), b" ", counter, END], out)
+        write_each(&[begin, self.name.as_bytes(), b" ", counter, END], out)
     }
 }

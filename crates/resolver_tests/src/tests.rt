@@ -56,7 +56,7 @@ fn a_new_name_needs_a_free_record(rt: HostRuntime) -> Result<(), Fail> {
     let a = name(b"a")?;
     assert_eq!(rt; refusal_of(&mut names, &a, &NOTHING), None);
     assert_eq!(rt; refusal_of(&mut names, &a, &NOTHING), Some(10));
-    assert_eq!(rt; names.record_at(0).map(|row| row.value), Some(0));
+    assert_eq!(rt; names.record_at(0).map(|row| row.counter), Some(0));
     assert!(rt; names.record_at(1).is_none());
     Ok(())
 }
@@ -96,17 +96,17 @@ fn a_listing_needs_room(rt: HostRuntime) -> Result<(), Fail> {
     assert_eq!(rt; names.reserve(&b), Ok(()));
     assert_eq!(rt; names.reserve(&a), Ok(()));
     let row = NameRecord {
-        key: name(b"c")?,
-        value: 7,
+        name: name(b"c")?,
+        counter: 7,
     };
     let mut short = [row; 1];
     assert_eq!(rt; names.list(&mut short), Err(Refusal::BufferTooShort));
-    assert_eq!(rt; short[0].value, 7);
+    assert_eq!(rt; short[0].counter, 7);
     let mut rows = [row; 3];
     assert_eq!(rt; names.list(&mut rows), Ok(2));
-    assert!(rt; rows[0].key.is(b"a"));
-    assert!(rt; rows[1].key.is(b"b"));
-    assert!(rt; rows[2].key.is(b"c"));
+    assert!(rt; rows[0].name.is(b"a"));
+    assert!(rt; rows[1].name.is(b"b"));
+    assert!(rt; rows[2].name.is(b"c"));
     Ok(())
 }
 

@@ -5,9 +5,9 @@ use Rattle.names.specs.declared.name.Name.{Name}
 use Rattle.names.specs.declared.refusal.Refusal.{Refusal}
 use Rattle.keys.specs.declared.refs.SymbolRef.{SymbolRef}
 use Rattle.conflict_resolver.specs.declared.resolver.search.Resolved.{Resolved}
-use Rattle.chunk_faults.specs.declared.sizes.MemorySizes.{MemorySizes}
-use Rattle.renamer.specs.declared.renamer.naming.RootName.{RootName}
-use Rattle.renamer.specs.declared.renamer.naming.RootName.TheVariants.{Given, Already}
+use Rattle.session_memory.specs.declared.sizes.MemorySizes.{MemorySizes}
+use Rattle.renamer.specs.declared.renamer.naming.TopLevelName.{TopLevelName}
+use Rattle.renamer.specs.declared.renamer.naming.TopLevelName.TheVariants.{Given, Already}
 use Rattle.answer_lines.specs.Lines.{line, refused_line}
 use Rattle.documents.specs.Searches.{found_line}
 
@@ -29,7 +29,7 @@ search_end (Ok found) = found_line found
 search_end (Err refusal) = refused_line refusal
 
 -- what naming a root answers
-abbrev pub root_end : Result RootName Refusal → List ℕ
+abbrev pub root_end : Result TopLevelName Refusal → List ℕ
 root_end (Ok (Given found)) = found_line found
 root_end (Ok (Already name)) = line (codes "has " ++ spelt name)
 root_end (Err refusal) = refused_line refusal

@@ -1,19 +1,21 @@
 // The answer to a document: what each call of its session answers, and what memory is given back.
 use crate::open::OpenSession;
+use crate::print;
 use crate::script::{Calls, Script, read_script};
-use crate::{print, repairing};
+use crate::tell::tell;
+use chunk_checks::checked::CheckedChunk;
 use chunk_text::document::Document;
 use chunk_text::fault::DocumentError;
 use documents::document::DocumentLines;
-use renamer::memory::Memory;
 use renamer::renamer::Renamer;
-use session_memory::{make, sizes_for};
+use session_memory::memory::Memory;
+use session_memory::sizes::sizes_for;
 use std::alloc::{AllocError, Global};
 
 // Makes the calls of a session that opened, and gives back its memory.
 fn perform(
     heap: Global,
-    renamer: Renamer,
+    renamer: Renamer<'_>,
     calls: &Calls<'_>,
     out: &mut Vec<u8>,
 ) -> Result<Memory, AllocError> {
@@ -23,20 +25,37 @@ fn perform(
     }
     let renamer = session.start_repair();
     for call in &calls.repairing {
-        repairing::tell(heap, &renamer, *call, out)?;
+        tell(heap, renamer.renamer(), *call, out)?;
     }
-    let (_, memory) = renamer.into_parts();
-    Ok(memory)
+    Ok(renamer.into_memory())
+}
+
+// Opens a session over a chunk whose tables are sound, and makes its calls. The memory is given back also where none opens.
+fn answer_calls(
+    heap: Global,
+    checked: &CheckedChunk,
+    memory: Memory,
+    calls: &Calls<'_>,
+    out: &mut Vec<u8>,
+) -> Result<Memory, AllocError> {
+    match Renamer::open(checked, memory) {
+        Ok(renamer) => perform(heap, renamer, calls, out),
+        Err(refused) => {
+            answer_lines::refused(refused.refusal, out)?;
+            Ok(refused.memory)
+        }
+    }
 }
 
 fn answer_script(heap: Global, script: Script<'_>, out: &mut Vec<u8>) -> Result<(), AllocError> {
     let Document { chunk, memory } = script.document;
-    let memory = make(heap, sizes_for(&chunk, memory))?;
-    let memory = match Renamer::open(heap, chunk, memory) {
-        Ok(renamer) => perform(heap, renamer, &script.calls, out)?,
+    let sizes = sizes_for(&chunk, memory);
+    let memory = Memory::make(heap, sizes)?;
+    let memory = match CheckedChunk::check(heap, chunk, &sizes) {
+        Ok(checked) => answer_calls(heap, &checked, memory, &script.calls, out)?,
         Err(refused) => {
             answer_lines::refused(refused.refusal, out)?;
-            refused.memory
+            memory
         }
     };
     print::memory(&memory.sizes(), out)?;

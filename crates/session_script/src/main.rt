@@ -5,8 +5,8 @@ mod call;
 mod document;
 mod open;
 mod print;
-mod repairing;
 mod script;
+mod tell;
 
 use document::answer;
 use documents::answers::answer_input;

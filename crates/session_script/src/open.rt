@@ -1,26 +1,27 @@
 // A session as long as it is open.
-use crate::call::{OpenCall, TellCall};
+use crate::call::OpenCall;
 use crate::print;
+use crate::tell::tell;
 use chunk_tables::kind::RootBindingKind;
 use conflict_resolver::resolver::Resolved;
 use hints::require_hint;
 use keys::refs::SymbolRef;
 use names::refusal::Refusal;
+use renamer::nested_scopes::NestedScopeRenamer;
 use renamer::renamer::Renamer;
-use renamer::repairing::NestedScopeRenamer;
 use std::alloc::{AllocError, Global};
 use vetoes::{Veto, VetoKind, Vetoes};
 
 // With what `policy` vetoes.
 #[derive(Drop)]
-pub struct OpenSession {
-    renamer: Renamer,
+pub struct OpenSession<'a> {
+    renamer: Renamer<'a>,
     vetoes: Vetoes,
 }
 
-impl OpenSession {
+impl<'a> OpenSession<'a> {
     // Nothing is vetoed yet.
-    pub fn new(heap: Global, renamer: Renamer) -> OpenSession {
+    pub fn new(heap: Global, renamer: Renamer<'a>) -> OpenSession<'a> {
         OpenSession {
             renamer,
             vetoes: Vetoes::none(heap),
@@ -67,19 +68,6 @@ impl OpenSession {
         }
     }
 
-    fn tell(&self, heap: Global, call: TellCall, out: &mut Vec<u8>) -> Result<(), AllocError> {
-        match call {
-            TellCall::Printed(symbol) => {
-                print::printed(symbol, self.renamer.printed_name(symbol), out)
-            }
-            TellCall::Names(places) => {
-                let mut rows = print::name_rows(heap, places, self.renamer.named())?;
-                let count = self.renamer.list(&mut rows);
-                print::names(count, &rows, out)
-            }
-        }
-    }
-
     pub fn perform(
         &mut self,
         heap: Global,
@@ -107,12 +95,12 @@ impl OpenSession {
                 print::search(b"policy", base, self.search(base, times), out)
             }
             OpenCall::Records => print::records(heap, &self.renamer, out),
-            OpenCall::Tell(call) => self.tell(heap, call, out),
+            OpenCall::Tell(call) => tell(heap, &self.renamer, call, out),
         }
     }
 
     // The names are given, and the vetoes go.
-    pub fn start_repair(self) -> NestedScopeRenamer {
+    pub fn start_repair(self) -> NestedScopeRenamer<'a> {
         let OpenSession { renamer, .. } = self;
         renamer.start_repair()
     }

@@ -6,7 +6,6 @@ ghost use Rattle.session_script.specs.Lines.{about_text, about_root, search_end,
 
 use answer_lines::part::Part::{Number, Text};
 use answer_lines::piece::write_each;
-use chunk_faults::sizes::MemorySizes;
 use conflict_resolver::resolver::{NameRecord, Resolved};
 use documents::records::write_records;
 use documents::searches::write_found;
@@ -15,7 +14,8 @@ use keys::refs::SymbolRef;
 use names::name::Name;
 use names::refusal::Refusal;
 use renamer::renamer::Renamer;
-use renamer::renamer::naming::RootName;
+use renamer::renamer::naming::TopLevelName;
+use session_memory::sizes::MemorySizes;
 use std::alloc::{AllocError, Global};
 
 /// What memory is given back.
@@ -69,12 +69,12 @@ fn search_end(answer: Result<Resolved, Refusal>, out: &mut Vec<u8>) -> Result<()
     }
 }
 
-fn root_end(answer: Result<RootName, Refusal>, out: &mut Vec<u8>) -> Result<(), AllocError>
+fn root_end(answer: Result<TopLevelName, Refusal>, out: &mut Vec<u8>) -> Result<(), AllocError>
     ensures { Writes out.old out.new result (root_end answer) }
 {
     match answer {
-        Ok(RootName::Given(found)) => write_found(&found, out),
-        Ok(RootName::Already(name)) => {
+        Ok(TopLevelName::Given(found)) => write_found(&found, out),
+        Ok(TopLevelName::Already(name)) => {
             write_each(&[Text(b"has "), Text(name.as_bytes()), Text(b"\n")], out)
         }
         Err(refusal) => answer_lines::refused(refusal, out),
@@ -110,7 +110,7 @@ pub fn search(
 /// A symbol of a root, and the name that it has now.
 pub fn root(
     symbol: SymbolRef,
-    answer: Result<RootName, Refusal>,
+    answer: Result<TopLevelName, Refusal>,
     out: &mut Vec<u8>,
 ) -> Result<(), AllocError>
     ensures { Writes out.old out.new result (about_root symbol ++ root_end answer) }
@@ -178,7 +178,7 @@ pub fn names(
 }
 
 /// The records, ascending by the bytes of their names.
-pub fn records(heap: Global, renamer: &Renamer, out: &mut Vec<u8>) -> Result<(), AllocError> {
+pub fn records(heap: Global, renamer: &Renamer<'_>, out: &mut Vec<u8>) -> Result<(), AllocError> {
     let mut rows: Vec<NameRecord> = (0..renamer.records())
         .filter_map(|i| renamer.record_at(i))
         .collect(heap)?;

@@ -1,12 +1,13 @@
-// What a session tells whose roots are named.
+// What a session tells in every state.
 use crate::call::TellCall;
 use crate::print;
-use renamer::repairing::NestedScopeRenamer;
+use renamer::renamer::Renamer;
 use std::alloc::{AllocError, Global};
 
+/// What a call answers that changes nothing. A session in repair tells what an open one does, so there is one function for both.
 pub fn tell(
     heap: Global,
-    renamer: &NestedScopeRenamer,
+    renamer: &Renamer<'_>,
     call: TellCall,
     out: &mut Vec<u8>,
 ) -> Result<(), AllocError> {
