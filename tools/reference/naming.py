@@ -360,7 +360,7 @@ def check():
     case({b"a": 9999}, none, 11, None, {b"a": 9999})
     case({b"a": 5902}, every, 12, None, {b"a": 5903})
     case({b"a": 5903}, every, 11, None, {b"a": 5904})
-    # Near miss: the lowest unrecorded number is not what is taken.
+    # Not the lowest unrecorded number: the search goes on behind the counter.
     case({b"a": 4}, none, b"a$5", 1, {b"a": 5, b"a$5": 0})
 
     chunk_n = b"""format esm

@@ -18,7 +18,7 @@ old = importlib.util.module_from_spec(spec)
 sys.dont_write_bytecode = True
 spec.loader.exec_module(old)
 
-BASES = ["now", "hours", "oil", "status", "render", "gateway", "require_alarms", "require_pages_oil"]
+BASES = ["now", "hours", "oil", "status", "render", "machine", "require_alarms", "require_pages_oil"]
 FEW = BASES[:3] + ["require_alarms"]
 RESERVED = ["default", "await", "exports", "module", "require", "Object", "Promise", "URL", "Symbol", "__filename"]
 GLOBALS = ["window", "screen", "fetch", "console"]

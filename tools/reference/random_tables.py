@@ -9,7 +9,7 @@ import random
 import sys
 
 NAMES = ["now", "clock", "hours", "oil", "status", "render", "level", "pump", "valve", "alarm", "shift", "feed",
-         "now$1", "now$2", "read", "write", "gateway", "exports", "module", "require", "Object", "Promise", "URL"]
+         "now$1", "now$2", "read", "write", "machine", "exports", "module", "require", "Object", "Promise", "URL"]
 GLOBALS = ["window", "screen", "console", "fetch", "setTimeout"] + NAMES
 CHUNK_NAMES = ["alarms", "reports", "pages/oil", "hours-of-shift", "a.b", "7", "x"]
 
