@@ -40,7 +40,7 @@ module _ {r s : Renamer} {k : ℕ} (h : DrawnTo k r s) where
     here d e =
         let at = at_place (chunk_in r).others k l in
         let told : d ≡ helper_drawn (chunk_in r) (session_of s) (helpers_of s) at.0 =
-            e ∙ ap (λ c. helper_at c (session_of s) (helpers_of s) k) (same_tables h.stays) ∙ (rw (at.1) refl) in
+        e ∙ ap (λ c. helper_at c (session_of s) (helpers_of s) k) (same_tables h.stays) ∙ (rw (at.1) refl) in
         ap (λ t. drawing_on t (λ T gs. draw_each (chunk_in r) T gs (drop (k + 1) (chunk_in r).others))) told
         ∙ ap (draw_each (chunk_in r) (session_of s) (helpers_of s)) (sym at.2) ∙ h.rules
 

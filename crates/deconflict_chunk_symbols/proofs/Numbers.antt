@@ -17,5 +17,5 @@ pub few : (c : Chunk) → ∥ Sound c ∥₁ → (m : ℕ) (M : Module) → Some
 few c sound m M e =
     ⊎_elim (λ l. l)
     (λ many.
-        absurd (∥∥₁_elim sound (hlevel) (λ t. let h = one_of (λ N. length N.symbols) c.modules m M e in let l = t.limits.symbols in let no : ⊥ = omega (arith, h, l, many) in no)))
+    absurd (∥∥₁_elim sound (hlevel) (λ t. let h = one_of (λ N. length N.symbols) c.modules m M e in let l = t.limits.symbols in let no : ⊥ = omega (arith, h, l, many) in no)))
     (cases_lt (length M.symbols) 4294967296)

@@ -71,7 +71,10 @@ pub fn name_external_namespaces(renamer: &mut Renamer<'_>) -> Result<(), Refusal
 fn is_used(chunk: &Chunk, symbol: SymbolRef) -> bool
     ensures { result ≡ is_used (chunk_of chunk.now) symbol }
 {
-    chunk.used_external_symbols.iter().any(|used| *used == symbol)
+    chunk
+        .used_external_symbols
+        .iter()
+        .any(|used| *used == symbol)
 }
 
 // How many symbols a module has.

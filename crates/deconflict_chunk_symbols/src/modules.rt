@@ -14,15 +14,15 @@ use names::refusal::Refusal;
 use renamer::renamer::Renamer;
 
 // A symbol that the bundler makes for the module, if there is one.
-fn name_own(
-    renamer: &mut Renamer<'_>,
-    owner: u32,
-    symbol: Option<u32>,
-) -> Result<(), Refusal>
+fn name_own(renamer: &mut Renamer<'_>, owner: u32, symbol: Option<u32>) -> Result<(), Refusal>
     ensures { Performs renamer.old renamer.new result (own_call owner symbol) }
 {
     match symbol {
-        Some(symbol) => name(renamer, SymbolRef { owner, symbol }, RootBindingKind::Synthesized),
+        Some(symbol) => name(
+            renamer,
+            SymbolRef { owner, symbol },
+            RootBindingKind::Synthesized,
+        ),
         None => Ok(()),
     }
 }

@@ -36,10 +36,7 @@ fn name_entry_symbols(renamer: &mut Renamer<'_>, entries: &[EntrySymbol]) -> Res
 }
 
 // The symbols of statements that the bundler makes.
-fn name_synthetic_symbols(
-    renamer: &mut Renamer<'_>,
-    symbols: &[SymbolRef],
-) -> Result<(), Refusal>
+fn name_synthetic_symbols(renamer: &mut Renamer<'_>, symbols: &[SymbolRef]) -> Result<(), Refusal>
     ensures { Performs renamer.old renamer.new result (flat_map synthesized symbols.now) }
 {
     for symbol in symbols {
