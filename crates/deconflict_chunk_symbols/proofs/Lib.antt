@@ -1,3 +1,4 @@
 mod Drawings
 mod Numbers
+mod Sections
 mod Turns

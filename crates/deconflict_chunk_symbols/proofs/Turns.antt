@@ -87,6 +87,11 @@ pub carried_list : {X : Type 0} (calls : Chunk → X → List Call) {x y : X} {r
     → Performs s t o (calls (chunk_in r) y)
 carried_list calls {x} {y} {r} h e k = as_seen _ (ap (calls (chunk_in r)) e) (carried (λ c. calls c x) h k)
 
+-- the calls of one section of the tables, and those of the next ones
+pub next : (calls more : Chunk → List Call) {r s t : Renamer} {o : Result (Unit {0}) Refusal} → Performs r s (Ok tt) (calls (chunk_in r)) → Performs s t o (more (chunk_in s))
+    → Performs r t o (calls (chunk_in r) ++ more (chunk_in r))
+next calls more h k = goes_on h (carried more h.keeps k)
+
 -- a naming call that is granted, and one that is refused
 pub named : {r s : Renamer} (n : TopLevelName) (q : SymbolRef) (k : RootBindingKind) → told_name (Ok n) (session_of s) ≡ root_named (chunk_in r) (session_of r) q k → Keeps r s
     → Performs r s (Ok tt) (root q k ∷ [])

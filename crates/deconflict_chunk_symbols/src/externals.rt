@@ -108,10 +108,10 @@ fn name_used_of(renamer: &mut Renamer<'_>, owner: u32) -> Result<(), Refusal>
     Ok(())
 }
 
-fn name_used_of_each(renamer: &mut Renamer<'_>, externals: &[u32]) -> Result<(), Refusal>
-    ensures { Performs renamer.old renamer.new result (flat_map (used_of (chunk_in renamer.old)) externals.now) }
+fn name_used_of_each(renamer: &mut Renamer<'_>) -> Result<(), Refusal>
+    ensures { Performs renamer.old renamer.new result (flat_map (used_of (chunk_in renamer.old)) (chunk_in renamer.old).direct) }
 {
-    for external in externals {
+    for external in &renamer.chunk().direct_externals {
         name_used_of(renamer, *external)?;
     }
     Ok(())
@@ -121,9 +121,8 @@ fn name_used_of_each(renamer: &mut Renamer<'_>, externals: &[u32]) -> Result<(),
 pub fn name_used_external_symbols(renamer: &mut Renamer<'_>) -> Result<(), Refusal>
     ensures { Performs renamer.old renamer.new result (used_calls (chunk_in renamer.old)) }
 {
-    let chunk = renamer.chunk();
-    if is_esm(chunk) {
-        name_used_of_each(renamer, &chunk.direct_externals)
+    if is_esm(renamer.chunk()) {
+        name_used_of_each(renamer)
     } else {
         Ok(())
     }

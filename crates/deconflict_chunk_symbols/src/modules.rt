@@ -3,7 +3,7 @@ ghost use Rattle.std.specs.Prelude.{◌≡◌, flat_map, map, reverse};
 ghost use Rattle.chunk_tables.specs.View.{module_of, statement_of};
 ghost use Rattle.renamer.specs.State.{chunk_in};
 ghost use Rattle.deconflict_chunk_symbols.specs.Performing.{Performs};
-ghost use Rattle.deconflict_chunk_symbols.specs.Run.{own_call, this_call, printed_at_top, declared_call, statement_calls, module_calls, member_calls};
+ghost use Rattle.deconflict_chunk_symbols.specs.Run.{own_call, this_call, printed_at_top, declared_call, statement_calls, module_calls, member_calls, members_calls};
 
 use crate::calls::{name, name_by_kind};
 use chunk_tables::chunk::Module;
@@ -112,10 +112,10 @@ fn name_module(renamer: &mut Renamer<'_>, number: u32) -> Result<(), Refusal>
 }
 
 // Last to first, so that the entry, which runs last, keeps its names.
-pub fn name_modules(renamer: &mut Renamer<'_>, numbers: &[u32]) -> Result<(), Refusal>
-    ensures { Performs renamer.old renamer.new result (flat_map (member_calls (chunk_in renamer.old)) (reverse numbers.now)) }
+pub fn name_modules(renamer: &mut Renamer<'_>) -> Result<(), Refusal>
+    ensures { Performs renamer.old renamer.new result (members_calls (chunk_in renamer.old)) }
 {
-    for number in numbers.iter().rev() {
+    for number in renamer.chunk().chunk_modules.iter().rev() {
         name_module(renamer, *number)?;
     }
     Ok(())

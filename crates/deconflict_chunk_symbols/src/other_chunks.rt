@@ -4,10 +4,9 @@ ghost use Rattle.chunk_tables.specs.View.{other_of};
 ghost use Rattle.renamer.specs.State.{chunk_in};
 ghost use Rattle.deconflict_chunk_symbols.specs.Drawing.{Draws};
 ghost use Rattle.deconflict_chunk_symbols.specs.Performing.{Performs};
-ghost use Rattle.deconflict_chunk_symbols.specs.Run.{by_kind, imported_from};
+ghost use Rattle.deconflict_chunk_symbols.specs.Run.{by_kind, import_calls};
 
 use crate::calls::name_by_kind;
-use chunk_tables::chunk::OtherChunk;
 use keys::refs::SymbolRef;
 use names::refusal::Refusal;
 use renamer::renamer::Renamer;
@@ -22,10 +21,10 @@ fn name_imported(renamer: &mut Renamer<'_>, symbols: &[SymbolRef]) -> Result<(),
 }
 
 // What is imported is declared in this chunk too, by the import statements that are printed.
-pub fn name_imports(renamer: &mut Renamer<'_>, others: &[OtherChunk]) -> Result<(), Refusal>
-    ensures { Performs renamer.old renamer.new result (flat_map (imported_from (chunk_in renamer.old)) (map other_of others.now)) }
+pub fn name_imports(renamer: &mut Renamer<'_>) -> Result<(), Refusal>
+    ensures { Performs renamer.old renamer.new result (import_calls (chunk_in renamer.old)) }
 {
-    for other in others {
+    for other in &renamer.chunk().other_chunks {
         name_imported(renamer, &other.imports)?;
     }
     Ok(())

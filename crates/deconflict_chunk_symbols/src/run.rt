@@ -1,9 +1,8 @@
 // The run of a chunk: all its naming calls, in order.
-ghost use Rattle.std.specs.Prelude.{flat_map};
 ghost use Rattle.renamer.specs.State.{chunk_in};
 ghost use Rattle.deconflict_chunk_symbols.specs.Drawing.{Runs};
 ghost use Rattle.deconflict_chunk_symbols.specs.Performing.{Performs};
-ghost use Rattle.deconflict_chunk_symbols.specs.Run.{entry_call, synthesized, naming_calls};
+ghost use Rattle.deconflict_chunk_symbols.specs.Run.{entry_call, entry_calls, synthetic_calls};
 
 use crate::calls::{name, name_by_kind};
 use crate::externals::{name_external_namespaces, name_used_external_symbols};
@@ -11,7 +10,6 @@ use crate::modules::name_modules;
 use crate::other_chunks::{create_require_names, name_imports};
 use chunk_tables::chunk::EntrySymbol;
 use chunk_tables::kind::RootBindingKind;
-use keys::refs::SymbolRef;
 use names::refusal::Refusal;
 use renamer::renamer::Renamer;
 
@@ -26,20 +24,20 @@ fn name_entry_symbol(renamer: &mut Renamer<'_>, entry: EntrySymbol) -> Result<()
 }
 
 // The symbols that the entry refers to.
-fn name_entry_symbols(renamer: &mut Renamer<'_>, entries: &[EntrySymbol]) -> Result<(), Refusal>
-    ensures { Performs renamer.old renamer.new result (flat_map (entry_call (chunk_in renamer.old)) entries.now) }
+fn name_entry_symbols(renamer: &mut Renamer<'_>) -> Result<(), Refusal>
+    ensures { Performs renamer.old renamer.new result (entry_calls (chunk_in renamer.old)) }
 {
-    for entry in entries {
+    for entry in &renamer.chunk().entry_symbols {
         name_entry_symbol(renamer, *entry)?;
     }
     Ok(())
 }
 
 // The symbols of statements that the bundler makes.
-fn name_synthetic_symbols(renamer: &mut Renamer<'_>, symbols: &[SymbolRef]) -> Result<(), Refusal>
-    ensures { Performs renamer.old renamer.new result (flat_map synthesized symbols.now) }
+fn name_synthetic_symbols(renamer: &mut Renamer<'_>) -> Result<(), Refusal>
+    ensures { Performs renamer.old renamer.new result (synthetic_calls (chunk_in renamer.old)) }
 {
-    for symbol in symbols {
+    for symbol in &renamer.chunk().synthetic_symbols {
         name(renamer, *symbol, RootBindingKind::Synthesized)?;
     }
     Ok(())
@@ -50,12 +48,11 @@ fn name_synthetic_symbols(renamer: &mut Renamer<'_>, symbols: &[SymbolRef]) -> R
 pub fn deconflict_chunk_symbols(renamer: &mut Renamer<'_>) -> Result<(), Refusal>
     ensures { Runs renamer.old renamer.new result }
 {
-    let chunk = renamer.chunk();
     name_external_namespaces(renamer)?;
-    name_entry_symbols(renamer, &chunk.entry_symbols)?;
+    name_entry_symbols(renamer)?;
     name_used_external_symbols(renamer)?;
-    name_modules(renamer, &chunk.chunk_modules)?;
-    name_synthetic_symbols(renamer, &chunk.synthetic_symbols)?;
-    name_imports(renamer, &chunk.other_chunks)?;
+    name_modules(renamer)?;
+    name_synthetic_symbols(renamer)?;
+    name_imports(renamer)?;
     create_require_names(renamer)
 }
