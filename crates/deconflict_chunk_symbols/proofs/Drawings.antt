@@ -13,9 +13,10 @@ use Rattle.renamer.specs.State.{chunk_in, session_of, helpers_of, Stays}
 use Rattle.renamer.specs.declared.renamer.Renamer.{Renamer}
 use Rattle.renamer.specs.declared.renamer.naming.TopLevelName.{TopLevelName}
 use Rattle.renamer.specs.declared.renamer.naming.TopLevelName.TheVariants.{Given, Already}
-use Rattle.deconflict_chunk_symbols.specs.Drawing.{drawing_on, draw_each, Draws, DrawnTo, Runs}
+use Rattle.deconflict_chunk_symbols.specs.Drawing.{drawing_on, draw_each, drawn_end, run, Draws, DrawnTo, Runs}
 use Rattle.deconflict_chunk_symbols.specs.Performing.{Performs}
 use Rattle.deconflict_chunk_symbols.specs.Run.{naming_calls}
+use Rattle.deconflict_chunk_symbols.proofs.RunCalls.{run_as_calls}
 use Rattle.deconflict_chunk_symbols.proofs.Turns.{stays_all, stays_on, same_tables}
 
 -- the element at a place, which stands before the rest
@@ -55,22 +56,24 @@ module _ {r s : Renamer} {k : ℕ} (h : DrawnTo k r s) where
 
 -- ---- the run
 
+-- from the rules of a run to its calls
+runs : {r s : Renamer} {o : Result (Unit {0}) Refusal} → drawn_end o s ≡ run (chunk_in r) (session_of r) (helpers_of r) → Stays r s → Runs r s o
+runs {r} e h = record { rules = e; calls = ap (λ d. d.told) e ∙ run_as_calls (chunk_in r) (session_of r) (helpers_of r); stays = h }
+
 -- a refusal of a naming call ends it
 pub ends_run : {r s : Renamer} {why : Refusal} → Performs r s (Err why) (naming_calls (chunk_in r)) → Runs r s (Err why)
-ends_run {r} {s} {why} h = record {
-  rules =
-      ap (λ k. record { told = told_end (Err why) (session_of s); helpers = helpers_in k.entries }) h.keeps.helpers
-      ∙ ap (λ t. drawing_on (record { told = t; helpers = helpers_of r }) (λ T gs. draw_each (chunk_in r) T gs (chunk_in r).others)) h.rules;
-  stays = h.keeps.stays;
-}
+ends_run {r} {s} {why} h =
+    runs
+    (ap (λ k. record { told = told_end (Err why) (session_of s); helpers = helpers_in k.entries }) h.keeps.helpers
+    ∙ ap (λ t. drawing_on (record { told = t; helpers = helpers_of r }) (λ T gs. draw_each (chunk_in r) T gs (chunk_in r).others)) h.rules)
+    h.keeps.stays
 
 -- else the helpers are drawn
 pub draws_on : {r s t : Renamer} {o : Result (Unit {0}) Refusal} → Performs r s (Ok tt) (naming_calls (chunk_in r)) → Draws s t o → Runs r t o
-draws_on {r} {s} h k = record {
-  rules =
-      k.rules
-      ∙ ap (λ c. draw_each c (session_of s) (helpers_of s) c.others) (same_tables h.keeps.stays)
-      ∙ ap (λ m. draw_each (chunk_in r) (session_of s) (helpers_in m.entries) (chunk_in r).others) h.keeps.helpers
-      ∙ ap (λ t. drawing_on (record { told = t; helpers = helpers_of r }) (λ T gs. draw_each (chunk_in r) T gs (chunk_in r).others)) h.rules;
-  stays = stays_on h.keeps.stays k.stays;
-}
+draws_on {r} {s} h k =
+    runs
+    (k.rules
+    ∙ ap (λ c. draw_each c (session_of s) (helpers_of s) c.others) (same_tables h.keeps.stays)
+    ∙ ap (λ m. draw_each (chunk_in r) (session_of s) (helpers_in m.entries) (chunk_in r).others) h.keeps.helpers
+    ∙ ap (λ t. drawing_on (record { told = t; helpers = helpers_of r }) (λ T gs. draw_each (chunk_in r) T gs (chunk_in r).others)) h.rules)
+    (stays_on h.keeps.stays k.stays)

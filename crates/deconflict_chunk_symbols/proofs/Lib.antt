@@ -1,4 +1,5 @@
 mod Drawings
 mod Numbers
+mod RunCalls
 mod Sections
 mod Turns

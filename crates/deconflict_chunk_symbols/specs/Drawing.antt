@@ -1,8 +1,11 @@
 -- The helpers that the run of a chunk draws, and the whole run. Assumes nothing.
-use Rattle.std.specs.Prelude.{◌≡◌, ℕ, List, [], ◌∷◌, Result, drop}
+use Rattle.std.specs.Prelude.{◌≡◌, ℕ, List, [], ◌∷◌, ◌++◌, Result, drop}
 use Rattle.names.specs.declared.refusal.Refusal.{Refusal}
+use Rattle.chunk_tables.specs.Lists.{maybe}
 use Rattle.chunk_tables.specs.Model.{OtherChunk, Chunk}
-use Rattle.session_rules.specs.Helpers.{Helper, Drawn, helper_drawn}
+use Rattle.hints.specs.Hints.{hint}
+use Rattle.session_rules.specs.Calls.{Call, helper, told}
+use Rattle.session_rules.specs.Helpers.{Helper, Drawn, helper_of, noted, helper_drawn}
 use Rattle.session_rules.specs.Rules.{Answer, given, already, agreed, declines, unchanged}
 use Rattle.session_rules.specs.Session.{Session}
 use Rattle.renamer.specs.Answers.{told_end}
@@ -30,6 +33,18 @@ draw_each c S hs (o ∷ os) = drawing_on (helper_drawn c S hs o) (λ T gs. draw_
 abbrev pub run : Chunk → Session → List Helper → Drawn
 run c S hs = drawing_on (record { told = perform_each c S (naming_calls c); helpers = hs }) (λ T gs. draw_each c T gs c.others)
 
+-- the calls that drawing comes to: one for each chunk that had no helper
+abbrev pub draw_calls : Chunk → Session → List Helper → List OtherChunk → List Call
+draw_calls c S hs [] = []
+draw_calls c S hs (o ∷ os) =
+    maybe (helper_of hs o.number)
+    (helper (hint o.name) ∷ draw_calls c (told c S (helper (hint o.name))).after (noted hs o.number (told c S (helper (hint o.name))).answer) os)
+    (λ n. draw_calls c S hs os)
+
+-- the calls of the whole run
+abbrev pub run_calls : Chunk → Session → List Helper → List Call
+run_calls c S hs = naming_calls c ++ draw_calls c (perform_each c S (naming_calls c)).after hs c.others
+
 -- an answer, with the session and the helpers that are left
 abbrev pub drawn_end : Result (Unit {0}) Refusal → Renamer → Drawn
 drawn_end answer s = record { told = told_end answer (session_of s); helpers = helpers_of s }
@@ -49,4 +64,6 @@ pub record DrawnTo (k : ℕ) (r s : Renamer) : Type 0 where
 -- what the run of a chunk leaves of a session r, and what it answers
 pub record Runs (r s : Renamer) (answer : Result (Unit {0}) Refusal) : Type 0 where
   pub rules : drawn_end answer s ≡ run (chunk_in r) (session_of r) (helpers_of r)
+  -- so what holds of every list of calls holds of a run
+  pub calls : told_end answer (session_of s) ≡ perform_each (chunk_in r) (session_of r) (run_calls (chunk_in r) (session_of r) (helpers_of r))
   pub stays : Stays r s
