@@ -1,5 +1,5 @@
 -- The ends of a reservation. Assumes nothing.
-use Rattle.std.proofs.Common.{◌≡◌, ℕ, ◌<◌, ◌≤◌, Bool, true, false, ltb, List, length, is_some, Some, None, Option, refl, ap, arith}
+use Rattle.std.proofs.Common.{◌≡◌, ℕ, ◌<◌, ◌≤◌, Bool, true, false, List, length, is_some, Some, None, Option, refl, ap, arith}
 use Rattle.std.proofs.lemmas.Bool.{ltb-true, ltb-false}
 use Rattle.conflict_resolver.specs.Records.{Record, counter_of, recording, has_free}
 use Rattle.conflict_resolver.specs.Rules.{Reservation, made, declined, reserved}

@@ -7,6 +7,7 @@ use keyed_table::slot::Slot;
 use keyed_table::table::Table;
 use names::name::Name;
 
+mod order;
 pub mod records;
 pub mod search;
 

@@ -1,5 +1,5 @@
 -- Records in the order of their names. Assumes nothing.
-use Rattle.std.specs.Prelude.{◌≡◌, ℕ, false, List, length}
+use Rattle.std.specs.Prelude.{◌≡◌, false, List, length}
 use Rattle.std.specs.List.{AllAdjacentBelow}
 use Rattle.keys.specs.Names.{name_under}
 use Rattle.conflict_resolver.specs.declared.resolver.NameRecord.{NameRecord}

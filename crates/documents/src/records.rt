@@ -16,6 +16,6 @@ pub fn write_records(records: &mut [NameRecord], out: &mut Vec<u8>) -> Result<()
     ensures ascending { Ascending records.new }
     ensures written { Writes out.old out.new result (flat_map record_line records.new) }
 {
-    records.sort_unstable_by_key(|record| record.name);
+    records.sort_unstable();
     write_each(records, out)
 }

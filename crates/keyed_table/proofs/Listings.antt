@@ -1,6 +1,6 @@
 -- A listing by keys: its keys ascend strictly, since no two are the same. Assumes nothing.
 use Rattle.std.proofs.Common.{◌≡◌, ℕ, ◌+◌, ◌<◌, Bool, true, cond, eqb, Ordering, Option, List, [], ◌∷◌, ◌++◌, map, length, get_or, take, drop, sym, refl, ap, ◌∙◌, subst, ⊎_elim, arith}
-use Rattle.std.specs.Cmp.{IsTotalOrder, Agrees}
+use Rattle.std.specs.Cmp.{Agrees}
 use Rattle.std.specs.Ordering.{is_lt, is_some_and, partial_lt}
 use Rattle.std.specs.List.Sorted.{IsPermutation, IsSortedByKey}
 use Rattle.std.specs.List.{swap}
@@ -99,9 +99,9 @@ module _ {X K : Type 0} (key : X → K) {under : K → K → Bool} (o : Strict u
         rest = drop_at ys (drop n copied) n long ∙ rest;
       }
 
--- what a sort by the keys leaves, where the keys compare as they stand
-pub sorted_by : {X K : Type 0} (key : X → K) {cmp : K → K → Ordering} {partial : K → K → Option Ordering} {under : K → K → Bool} → IsTotalOrder cmp → Agrees partial cmp → ((x y : K) → partial_lt partial x y ≡ under x y) → (ys : List X) → IsSortedByKey key cmp ys → Sorted key under ys
-sorted_by key {cmp = cmp} {partial = partial} order same agrees ys up k d l =
+-- what a sort by the keys leaves, where `<` of the keys is the order
+pub sorted_by : {X K : Type 0} (key : X → K) {cmp : K → K → Ordering} {partial : K → K → Option Ordering} {under : K → K → Bool} → Agrees partial cmp → ((x y : K) → partial_lt partial x y ≡ under x y) → (ys : List X) → IsSortedByKey key cmp ys → Sorted key under ys
+sorted_by key {cmp = cmp} {partial = partial} same agrees ys up k d l =
     let x = key (get_or ys k d) in
     let y = key (get_or ys (k + 1) d) in
     sym (agrees y x) ∙ ap (is_some_and is_lt) (same y x) ∙ up k d (omega arith) (omega arith)

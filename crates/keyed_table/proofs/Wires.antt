@@ -2,7 +2,7 @@
 use Rattle.std.proofs.Common.{◌≡◌, ℕ, ◌+◌, ◌%◌, ◌<◌, ◌≤◌, List, [], ◌∷◌, ◌++◌, length, get_or, set, Some, sym, refl, ap, ◌∙◌, subst, ⊎_elim, arith}
 use Rattle.std.proofs.lemmas.List.{length-set, length_push, length-map, map-set, get_or_default, map_push, set-get_or, get_or-set_same, get_or-set_other, get_or_push, get_or_append_left}
 use Rattle.std.proofs.lemmas.Bool.{cases_eq, cond-true, cond-false, eq-eqb, ne_eqb}
-use Rattle.keyed_table.specs.Links.{AllBlank, Wired, Heads, Nexts, held, homes, latest}
+use Rattle.keyed_table.specs.Links.{AllBlank, Wired, Hashes, Heads, Nexts, held, homes, latest}
 use Rattle.keyed_table.specs.Model.{Distinct}
 use Rattle.keyed_table.specs.declared.slot.Entry.{Entry}
 use Rattle.keyed_table.specs.declared.slot.Slot.{Slot}
@@ -23,13 +23,14 @@ read f xs i x l is d = ap f (get_or_default xs i d x l ∙ sym is)
 
 module _ {K V : Type 0} (hashed : K → ℕ) where
   -- the invariant, over a list that the slots are known to hold
-  wire : (slots : List (Slot K V)) (n : ℕ) (ss : List (Entry K V)) (e : Entry K V) (hs : List ℕ) → n ≤ length slots → Shows slots n ss → homes hashed (length slots) ss ≡ hs → Heads slots n hs → Nexts slots n hs → Distinct ss → Wired hashed slots n
-  wire slots n ss e hs l shows is heads nexts apart =
+  wire : (slots : List (Slot K V)) (n : ℕ) (ss : List (Entry K V)) (e : Entry K V) (hs : List ℕ) → n ≤ length slots → Shows slots n ss → Hashes hashed slots n ss → homes hashed (length slots) ss ≡ hs → Heads slots n hs → Nexts slots n hs → Distinct ss → Wired hashed slots n
+  wire slots n ss e hs l shows hashes is heads nexts apart =
       let held-ss = held_is slots n ss l shows in
       let all : homes hashed (length slots) (held slots n) ≡ hs = ap (homes hashed (length slots)) held-ss ∙ is in
       record {
         within = l;
         full = full_from_shows slots n ss e shows;
+        hashes = subst (Hashes hashed slots n) (sym held-ss) hashes;
         heads = subst (Heads slots n) (sym all) heads;
         nexts = subst (Nexts slots n) (sym all) nexts;
         distinct = subst Distinct (sym held-ss) apart;
@@ -39,6 +40,7 @@ module _ {K V : Type 0} (hashed : K → ℕ) where
   wired_blank slots all = record {
     within = omega arith;
     full = λ i d l. absurd (omega arith);
+    hashes = λ i d e l. absurd (omega arith);
     heads = λ b d l. ap (λ s. s.head) (all b d l);
     nexts = λ i d l. absurd (omega arith);
     distinct = λ c. let l = c.within in omega arith;
@@ -67,7 +69,7 @@ module _ {K V : Type 0} (hashed : K → ℕ) where
 
   module _ (slots : List (Slot K V)) (len : ℕ) (w : Wired hashed slots len) (i : ℕ) (e : Entry K V) (s : Slot K V) (l : i < len) (is : s ≡ get_or slots i s) where
     abbrev replaced : List (Slot K V)
-    replaced = set slots i (record { entry = Some e; head = s.head; next = s.next })
+    replaced = set slots i (record { hash = s.hash; entry = Some e; head = s.head; next = s.next })
 
     length_replaced : length replaced ≡ length slots
     length_replaced = length-set slots i _
@@ -95,6 +97,7 @@ module _ {K V : Type 0} (hashed : K → ℕ) where
         let n = (shows_held slots len w.within w.full).0 in
         let in' : i < length slots = omega arith in
         wire replaced len (set ss i e) e (homes hashed (length slots) ss) (omega arith) shows_set
+        (λ j d x o. kept (λ s. s.hash) slots i _ in' (read (λ s. s.hash) slots i s in' is) j d ∙ w.hashes j d x o ∙ ap hashed (sym (kept (λ x. x.key) ss i e (omega arith) key j x)))
         (ap (λ c. homes hashed c (set ss i e)) cap ∙ homes_set ss i e (omega arith) key (length slots))
         (λ b d x. kept (λ s. s.head) slots i _ in' (read (λ s. s.head) slots i s in' is) b d ∙ w.heads b d (omega arith))
         (λ j d x. kept (λ s. s.next) slots i _ in' (read (λ s. s.next) slots i s in' is) j d ∙ w.nexts j d x)
@@ -102,12 +105,12 @@ module _ {K V : Type 0} (hashed : K → ℕ) where
 
   -- ---- one more
 
-  module _ (slots : List (Slot K V)) (len : ℕ) (w : Wired hashed slots len) (e : Entry K V) (b : ℕ) (x y z : Slot K V) where
+  module _ (slots : List (Slot K V)) (len : ℕ) (w : Wired hashed slots len) (e : Entry K V) (h b : ℕ) (x y z : Slot K V) where
     abbrev filled : List (Slot K V)
-    filled = set slots len (record { entry = Some e; head = x.head; next = y.head })
+    filled = set slots len (record { hash = h; entry = Some e; head = x.head; next = y.head })
 
     abbrev linked : List (Slot K V)
-    linked = set filled b (record { entry = z.entry; head = Some len; next = z.next })
+    linked = set filled b (record { hash = z.hash; entry = z.entry; head = Some len; next = z.next })
 
     linked_length : length linked ≡ length slots
     linked_length = length-set filled b _ ∙ length-set slots len _
@@ -115,7 +118,7 @@ module _ {K V : Type 0} (hashed : K → ℕ) where
     module _ (room : len < length slots) (in' : b < length slots) (home : b ≡ hashed e.key % length slots)
         (x-is : x ≡ get_or slots len x) (y-is : y ≡ get_or slots b y) (z-is : z ≡ get_or filled b z) where
       in_filled : b < length filled
-      in_filled = let n = length-set slots len (record { entry = Some e; head = x.head; next = y.head }) in omega arith
+      in_filled = let n = length-set slots len (record { hash = h; entry = Some e; head = x.head; next = y.head }) in omega arith
 
       shows_push : Shows linked (len + 1) (held slots len ++ e ∷ [])
       shows_push =
@@ -132,14 +135,26 @@ module _ {K V : Type 0} (hashed : K → ℕ) where
       pub held_appended : held linked (len + 1) ≡ held slots len ++ e ∷ []
       held_appended = let n = linked_length in held_is linked (len + 1) _ (omega arith) shows_push
 
-      pub wired_appended : Distinct (held slots len ++ e ∷ []) → Wired hashed linked (len + 1)
-      wired_appended apart =
+      hashes_push : h ≡ hashed e.key → Hashes hashed linked (len + 1) (held slots len ++ e ∷ [])
+      hashes_push hash j d v l =
+          let ss = held slots len in
+          let shown = (shows_held slots len w.within w.full).0 in
+          kept (λ s. s.hash) filled b _ in_filled (read (λ s. s.hash) filled b z in_filled z-is) j d
+          ∙ ⊎_elim
+          (λ eq. subst (λ m. (get_or filled m d).hash ≡ hashed (get_or (ss ++ e ∷ []) m v).key) (sym eq)
+          (ap (λ s. s.hash) (get_or-set_same slots len _ d room) ∙ hash ∙ ap (λ y. hashed y.key) (sym (get_or_push ss e v len shown))))
+          (λ ne. ap (λ s. s.hash) (get_or-set_other slots len j _ d ne) ∙ w.hashes j d v (omega arith)
+          ∙ ap (λ y. hashed y.key) (sym (get_or_append_left ss (e ∷ []) v j (omega arith))))
+          (cases_eq j len)
+
+      pub wired_appended : h ≡ hashed e.key → Distinct (held slots len ++ e ∷ []) → Wired hashed linked (len + 1)
+      wired_appended hash apart =
           let ss = held slots len in
           let hs = homes hashed (length slots) ss in
           let m = linked_length in
           let shown = (shows_held slots len w.within w.full).0 in
           let long : length hs ≡ len = length-map ss (λ e. hashed e.key % length slots) ∙ shown in
-          wire linked (len + 1) (ss ++ e ∷ []) e (hs ++ b ∷ []) (omega arith) shows_push
+          wire linked (len + 1) (ss ++ e ∷ []) e (hs ++ b ∷ []) (omega arith) shows_push (hashes_push hash)
           (ap (λ c. homes hashed c (ss ++ e ∷ [])) m ∙ map_push (λ e. hashed e.key % length slots) ss e ∙ ap (λ h. hs ++ h ∷ []) (sym home))
           (λ k d l. ⊎_elim
           (λ eq. subst (λ k. (get_or linked k d).head ≡ latest (hs ++ b ∷ []) k (len + 1)) (sym eq)

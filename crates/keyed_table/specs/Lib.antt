@@ -3,3 +3,4 @@ pub mod Contents
 pub mod Laws
 pub mod Links
 pub mod Listed
+pub mod Ranks

@@ -8,7 +8,7 @@ use Rattle.keyed_table.specs.declared.slot.Slot.{Slot}
 
 -- a slot with no entry
 abbrev pub blank : {K V : Type 0} → Slot K V
-blank = record { entry = None; head = None; next = None }
+blank = record { hash = 0; entry = None; head = None; next = None }
 
 -- memory in which no slot holds or links anything
 abbrev pub AllBlank : {K V : Type 0} → List (Slot K V) → Type 0
@@ -39,10 +39,15 @@ Heads {K} {V} slots len hs = (b : ℕ) (d : Slot K V) → b < length slots → (
 abbrev pub Nexts : {K V : Type 0} → List (Slot K V) → ℕ → List ℕ → Type 0
 Nexts {K} {V} slots len hs = (i : ℕ) (d : Slot K V) → i < len → (get_or slots i d).next ≡ latest hs (slice_index hs i) i
 
+-- each full slot has the hash of its entry's key
+abbrev pub Hashes : {K V : Type 0} → (K → ℕ) → List (Slot K V) → ℕ → List (Entry K V) → Type 0
+Hashes {K} {V} hashed slots len es = (i : ℕ) (d : Slot K V) (e : Entry K V) → i < len → (get_or slots i d).hash ≡ hashed (get_or es i e).key
+
 -- what the slots of a table keep
 pub record Wired {K V : Type 0} (hashed : K → ℕ) (slots : List (Slot K V)) (len : ℕ) : Type 0 where
   pub within : len ≤ length slots
   pub full : Full slots len
+  pub hashes : Hashes hashed slots len (held slots len)
   pub heads : Heads slots len (homes hashed (length slots) (held slots len))
   pub nexts : Nexts slots len (homes hashed (length slots) (held slots len))
   pub distinct : Distinct (held slots len)

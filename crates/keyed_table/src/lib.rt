@@ -2,5 +2,6 @@
 #![tactic(auto)]
 
 mod listing;
+mod order;
 pub mod slot;
 pub mod table;

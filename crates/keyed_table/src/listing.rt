@@ -22,10 +22,10 @@ pub(crate) fn copy_out<K: Copy, V: Copy>(slots: &[Slot<K, V>], out: &mut [Entry<
     }
 }
 
-// Sorts the entries by their keys.
-pub(crate) fn by_key<K: OrderedKey + Copy, V>(entries: &mut [Entry<K, V>])
+// Sorts the entries by their keys. Entries are compared as they stand, since a sort by a key would copy two keys each time.
+pub(crate) fn by_key<K: OrderedKey, V>(entries: &mut [Entry<K, V>])
     ensures shuffled { IsPermutation entries.old entries.new }
     ensures sorted { Sorted key_of K.under entries.new }
 {
-    entries.sort_unstable_by_key(|entry| entry.key);
+    entries.sort_unstable();
 }

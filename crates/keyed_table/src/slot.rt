@@ -1,5 +1,5 @@
 // The slots of a table's memory, and the entries that they hold.
-ghost use Rattle.std.specs.Prelude.{◌≡◌, false, MatchOption};
+ghost use Rattle.std.specs.Prelude.{◌≡◌, ◌==◌, ◌&&◌, false, MatchOption};
 ghost use Rattle.keyed_table.specs.Links.{AllBlank, blank};
 
 use keys::key::HashKey;
@@ -13,11 +13,14 @@ pub struct Entry<K, V> {
     pub value: V,
 }
 
-/// A place for one entry, and two links. Slot i has the i-th entry; `head` leads to the newest entry of bucket i, and `next` from
-/// the i-th entry to the next older one of its bucket. Links are places in the same memory and no pointers, so the memory can be
+/// A place for one entry with its key's hash, and two links. Slot i has the i-th entry; `head` leads to the newest entry of bucket
+/// i, and `next` from the i-th entry to the next older one of its bucket. Links are places in the same memory and no pointers, so the memory can be
 /// handed over and back. What slots say of each other is the table's to keep, and no caller's to write.
 #[derive(Clone, Copy)]
 pub struct Slot<K, V> {
+    // The hash of the entry's key, so that a walk along a bucket need not read the keys of others. It is 0 where none is. It
+    // lies in front, where the `next` of the slot before it ends: keys that came one after another are walked fastest so.
+    pub(crate) hash: u32,
     pub(crate) entry: Option<Entry<K, V>>,
     pub(crate) head: Option<usize>,
     pub(crate) next: Option<usize>,
@@ -29,6 +32,7 @@ impl<K, V> Slot<K, V> {
         ensures { result ≡ blank }
     {
         Slot {
+            hash: 0,
             entry: None,
             head: None,
             next: None,
@@ -37,11 +41,12 @@ impl<K, V> Slot<K, V> {
 }
 
 impl<K: HashKey + Copy, V: Copy> Slot<K, V> {
-    // Whether the slot has the key's entry.
-    pub(crate) fn is_for(&self, key: &K) -> bool
-        ensures { MatchOption self.now.entry (result ≡ false) (λ e. result ≡ K.eq e.key key.now) }
+    // Whether the slot has an entry of this key and this hash. Hashes are compared first: of the keys in a bucket few have the
+    // same, and to compare two long keys takes time.
+    pub(crate) fn is_for(&self, key: &K, hash: u32) -> bool
+        ensures { MatchOption self.now.entry (result ≡ false) (λ e. result ≡ (self.now.hash == hash && K.eq e.key key.now)) }
     {
-        self.entry.is_some_and(|entry| entry.key == *key)
+        self.hash == hash && self.entry.as_ref().is_some_and(|entry| entry.key == *key)
     }
 }
 

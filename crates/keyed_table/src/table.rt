@@ -88,18 +88,20 @@ impl<K: HashKey + Copy, V: Copy> Table<K, V> {
         self.slots[..self.len].get(i)?.entry
     }
 
-    // The place of the key. The walk ends since each link leads to an older place, which no iterator can be told.
-    fn place_of(&self, key: &K) -> Option<usize>
+    // The place of the key, whose hash is handed over, so that a change need not make it twice. The walk ends since each link
+    // leads to an older place, which no iterator can be told.
+    fn place_of(&self, key: &K, hash: u32) -> Option<usize>
+        requires { hash ≡ K.hashed key.now }
         ensures sought { Sought K.eq self.now.entries key.now result }
         ensures distinct { Distinct self.now.entries }
     {
         if self.slots.is_empty() {
             return None;
         }
-        let mut at = self.slots[key.hash() as usize % self.slots.len()].head;
+        let mut at = self.slots[hash as usize % self.slots.len()].head;
         while let Some(i) = at {
             let slot = &self.slots[i];
-            if slot.is_for(key) {
+            if slot.is_for(key, hash) {
                 return Some(i);
             }
             at = slot.next;
@@ -111,7 +113,7 @@ impl<K: HashKey + Copy, V: Copy> Table<K, V> {
     pub fn find(&self, key: &K) -> Option<V>
         ensures { result ≡ lookup K.eq self.now.entries key.now }
     {
-        let entry = self.entry(self.place_of(key)?)?;
+        let entry = self.entry(self.place_of(key, key.hash())?)?;
         Some(entry.value)
     }
 
@@ -126,17 +128,19 @@ impl<K: HashKey + Copy, V: Copy> Table<K, V> {
     }
 
     // Puts the entry behind the others, and at the front of its bucket's chain.
-    fn append(&mut self, entry: Entry<K, V>)
+    fn append(&mut self, entry: Entry<K, V>, hash: u32)
+        requires hash { hash ≡ K.hashed entry.key }
         requires space { length self.old.entries < room self.old }
         requires fresh { Distinct (self.old.entries ++ entry ∷ []) }
         ensures entries { self.new.entries ≡ self.old.entries ++ entry ∷ [] }
         ensures room { room self.new ≡ room self.old }
     {
         let len = self.len;
-        let home = entry.key.hash() as usize % self.slots.len();
+        let home = hash as usize % self.slots.len();
         let next = self.slots[home].head;
         let slot = &mut self.slots[len];
         slot.entry = Some(entry);
+        slot.hash = hash;
         slot.next = next;
         self.slots[home].head = Some(len);
         self.len = len + 1;
@@ -151,14 +155,15 @@ impl<K: HashKey + Copy, V: Copy> Table<K, V> {
         ensures refused { IfErr result (λ e. (number_of e ≡ 10) × (self.new ≡ self.old)) }
     {
         let entry = Entry { key, value };
-        if let Some(i) = self.place_of(&key) {
+        let hash = key.hash();
+        if let Some(i) = self.place_of(&key, hash) {
             self.replace(i, entry);
             return Ok(());
         }
         if self.free() == 0 {
             return Err(Refusal::NoFreeRecord);
         }
-        self.append(entry);
+        self.append(entry, hash);
         Ok(())
     }
 }

@@ -1,5 +1,5 @@
 // What is on record.
-ghost use Rattle.std.specs.Prelude.{◌≡◌, ◌<◌, ◌≤◌, true, ◌||◌, [], length, take, drop, is_some, Some, None, min, vec_len, MatchResult};
+ghost use Rattle.std.specs.Prelude.{◌≡◌, ◌+◌, ◌<◌, ◌≤◌, true, ◌||◌, [], length, take, drop, is_some, Some, None, min, vec_len, MatchResult};
 ghost use Rattle.std.specs.Option.{option_map};
 ghost use Rattle.std.specs.List.{slice_get};
 ghost use Rattle.std.specs.List.Sorted.{IsPermutation};
@@ -25,7 +25,7 @@ fn by_name(records: &mut [NameRecord])
     ensures shuffled { IsPermutation records.old records.new }
     ensures sorted { Sorted name_of name_under records.new }
 {
-    records.sort_unstable_by_key(|record| record.name);
+    records.sort_unstable();
 }
 
 // Each change says beside the records that the room stays: it is a fact about two states, which no type can hold. A free
@@ -107,6 +107,13 @@ impl ConflictResolver {
         ensures slots { slots_of self.new ≡ slots_of self.old }
     {
         self.store(name, 0);
+    }
+
+    /// How many records more can be made: so many searches can still be granted, and none is refused for want of a record.
+    pub fn free(&self) -> usize
+        ensures { result + length (held self.now) ≡ room self.now }
+    {
+        self.most - self.len()
     }
 
     /// Whether one record more can be made. Each search that is granted makes one, and so does each reservation of a name

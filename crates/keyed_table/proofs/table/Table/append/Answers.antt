@@ -16,20 +16,20 @@ invariant_of-self g c =
     let slots = c.self.inside.slots.items in
     let space = subst (λ (t : Contents g.row.K.Denot g.row.V.Denot). length t.entries < length t.memory) (sym c.self.view_is) c.requires.space in
     let fresh = subst (λ (t : Contents g.row.K.Denot g.row.V.Denot). Distinct (t.entries ++ c.args.entry ∷ [])) (sym c.self.view_is) c.requires.fresh in
-    let hash : c.hash.result ≡ hashed c.args.entry.key = c.hash.ensures in
+    let hash : c.args.hash ≡ hashed c.args.entry.key = c.requires.hash in
     let long : c.len.result ≡ length slots = omega arith in
-    let home : c.hash.result % c.len.result ≡ hashed c.args.entry.key % length slots = ap (λ h. h % c.len.result) hash ∙ ap (λ n. hashed c.args.entry.key % n) long in
-    wired_appended hashed slots _ c.self.invariant c.args.entry _ _ _ _ (omega (arith, space, length_held _ _ c.self.invariant)) (subst (λ b. b < length slots) (sym home) (mod-lt (hashed c.args.entry.key) (omega (arith, space)))) home
-    c.index_mut-slot.ensures.value c.index.ensures c.index_mut.ensures.value fresh
+    let home : c.args.hash % c.len.result ≡ hashed c.args.entry.key % length slots = ap (λ h. h % c.len.result) hash ∙ ap (λ n. hashed c.args.entry.key % n) long in
+    wired_appended hashed slots _ c.self.invariant c.args.entry c.args.hash _ _ _ _ (omega (arith, space, length_held _ _ c.self.invariant)) (subst (λ b. b < length slots) (sym home) (mod-lt (hashed c.args.entry.key) (omega (arith, space)))) home
+    c.index_mut-slot.ensures.value c.index.ensures c.index_mut.ensures.value hash fresh
 
 pub returns-clause-entries : goal.returns-clause-entries
 returns-clause-entries g c =
     let hashed = g.K.HashKey.hashed in
     let slots = c.self.inside.slots.items in
     let space = subst (λ (t : Contents g.row.K.Denot g.row.V.Denot). length t.entries < length t.memory) (sym c.self.view_is) c.requires.space in
-    let hash : c.hash.result ≡ hashed c.args.entry.key = c.hash.ensures in
+    let hash : c.args.hash ≡ hashed c.args.entry.key = c.requires.hash in
     let long : c.len.result ≡ length slots = omega arith in
-    let home : c.hash.result % c.len.result ≡ hashed c.args.entry.key % length slots = ap (λ h. h % c.len.result) hash ∙ ap (λ n. hashed c.args.entry.key % n) long in
-    held_appended hashed slots _ c.self.invariant c.args.entry _ _ _ _ (omega (arith, space, length_held _ _ c.self.invariant)) (subst (λ b. b < length slots) (sym home) (mod-lt (hashed c.args.entry.key) (omega (arith, space)))) home
+    let home : c.args.hash % c.len.result ≡ hashed c.args.entry.key % length slots = ap (λ h. h % c.len.result) hash ∙ ap (λ n. hashed c.args.entry.key % n) long in
+    held_appended hashed slots _ c.self.invariant c.args.entry c.args.hash _ _ _ _ (omega (arith, space, length_held _ _ c.self.invariant)) (subst (λ b. b < length slots) (sym home) (mod-lt (hashed c.args.entry.key) (omega (arith, space)))) home
     c.index_mut-slot.ensures.value c.index.ensures c.index_mut.ensures.value
     ∙ ap (λ (t : Contents g.row.K.Denot g.row.V.Denot). t.entries ++ c.args.entry ∷ []) c.self.view_is

@@ -8,26 +8,26 @@ pub loop-at-init : goal.loop-at-init
 loop-at-init g c =
     let hashed = g.K.HashKey.hashed in
     let slots = c.self.inside.slots.items in
-    let hash : c.hash.result ≡ hashed c.args.key.now = c.hash.ensures in
+    let hash : c.args.hash ≡ hashed c.args.key.now = c.requires in
     let long : c.len.result ≡ length slots = omega arith in
-    let home : c.hash.result % c.len.result ≡ hashed c.args.key.now % length slots = ap (λ h. h % c.len.result) hash ∙ ap (λ n. hashed c.args.key.now % n) long in
+    let home : c.args.hash % c.len.result ≡ hashed c.args.key.now % length slots = ap (λ h. h % c.len.result) hash ∙ ap (λ n. hashed c.args.key.now % n) long in
     let P : ℕ → Type 0 = λ b. Seeking g.K.PartialEq.eq hashed slots c.self.inside.len c.args.key.now (get_or slots b c.index.result.now).head in
     let some : 0 < length slots = grind (arith, nat_tests, c.is_empty.ensures, c.if-is_empty.false) in
-    let at : c.index.result.now.head ≡ (get_or slots (c.hash.result % c.len.result) c.index.result.now).head = ap (λ s. s.head) c.index.ensures in
+    let at : c.index.result.now.head ≡ (get_or slots (c.args.hash % c.len.result) c.index.result.now).head = ap (λ s. s.head) c.index.ensures in
     subst (Seeking g.K.PartialEq.eq hashed slots c.self.inside.len c.args.key.now) (sym at)
     (subst P (sym home) (seeking_start g.K.PartialEq.eq hashed slots _ c.args.key.now g.met.K.HashKey.tells c.self.invariant c.index.result.now (mod-lt (hashed c.args.key.now) some)))
 
 pub returns-then-is_for-clause-sought : goal.returns-then-is_for-clause-sought
 returns-then-is_for-clause-sought g c =
     subst (λ t. Last g.K.PartialEq.eq t.entries c.args.key.now c.in-Some.i) c.self.view_is
-    (sought_here g.K.PartialEq.eq g.K.HashKey.hashed _ _ _ g.met.K.HashKey.tells c.self.invariant _ _ _ c.loop-at.invariant c.in-Some.is c.index-slot.ensures c.if-is_for.ensures)
+    (sought_here g.K.PartialEq.eq g.K.HashKey.hashed _ _ _ g.met.K.HashKey.tells c.self.invariant _ _ _ c.loop-at.invariant c.in-Some.is c.index-slot.ensures c.args.hash c.requires c.if-is_for.ensures)
 
 pub loop-at-smaller : goal.loop-at-smaller
 loop-at-smaller g c = next_less g.K.PartialEq.eq g.K.HashKey.hashed _ _ _ g.met.K.HashKey.tells c.self.invariant _ _ _ c.loop-at.invariant c.in-Some.is c.index-slot.ensures
 
 pub loop-at-preserved : goal.loop-at-preserved
 loop-at-preserved g c =
-    seeking_next g.K.PartialEq.eq g.K.HashKey.hashed _ _ _ g.met.K.HashKey.tells c.self.invariant _ _ _ c.loop-at.invariant c.in-Some.is c.index-slot.ensures c.is_for.result c.if-is_for.false c.is_for.ensures
+    seeking_next g.K.PartialEq.eq g.K.HashKey.hashed _ _ _ g.met.K.HashKey.tells c.self.invariant _ _ _ c.loop-at.invariant c.in-Some.is c.index-slot.ensures c.args.hash c.requires c.is_for.result c.if-is_for.false c.is_for.ensures
 
 pub returns-clause-sought : goal.returns-clause-sought
 returns-clause-sought g c =
