@@ -30,17 +30,19 @@ pub fn answers_to<F: Fn(Global, DocumentLines<'_, '_>, &mut Vec<u8>) -> Result<(
     Ok(out)
 }
 
-/// Reads an input to its end, and writes the answers to its documents. Nothing is written before all is answered.
+/// Reads an input to its end, and writes the answers to its documents. Nothing is written before all is answered. A program
+/// says by its own error what it tells of a reader or a writer that fails, and of memory that runs out.
 pub fn answer_input<
     R: Read,
     W: Write,
     F: Fn(Global, DocumentLines<'_, '_>, &mut Vec<u8>) -> Result<(), AllocError>,
->(heap: Global, input: &mut R, output: &mut W, answer: F) -> io::Result<()>
+    E: From<io::Error> + From<AllocError>,
+>(heap: Global, input: &mut R, output: &mut W, answer: F) -> Result<(), E>
     requires { F.IsAlwaysCallable answer }
     ensures { (says : Document → List ℕ) → Says (F.post answer heap) says → OnOk result (IfSome (R.remaining input.old) (λ text. Appends (W.contents output.old) (W.contents output.new) (answers says text))) }
 {
     let mut text = Vec::new(heap);
     input.read_to_end(&mut text)?;
     let answers = answers_to(heap, &text, answer)?;
-    output.write_all(&answers)
+    Ok(output.write_all(&answers)?)
 }

@@ -1,33 +1,40 @@
 // Documents: each has its own records and vetoes.
 use crate::command::{Command, Fault, parse};
 use crate::print;
-use conflict_resolver::resolver::{ConflictResolver, NameRecord, RecordSlot, Resolved};
+use conflict_resolver::resolver::{ConflictResolver, RecordSlot, Resolved};
 use documents::document::DocumentLines;
-use documents::records::write_records;
 use names::limits::MOST_RECORDS;
 use names::name::Name;
 use names::refusal::Refusal;
 use std::alloc::{AllocError, Global};
 use vetoes::{Veto, Vetoes};
 
-// Why a document cannot be carried out: the place of its first faulty line, and what is wrong with it.
+// The first faulty line of a document, by its place there, and what is wrong with it.
 #[derive(Clone, Copy)]
-enum ReadError {
-    Faulty(usize, Fault),
-    NoMemory,
+struct FaultyLine {
+    place: usize,
+    fault: Fault,
 }
 
-// All lines are read before any is carried out, so that a faulty one leaves nothing half done.
-fn read_commands<'a>(heap: Global, lines: &[&'a [u8]]) -> Result<Vec<Command<'a>>, ReadError> {
-    let mut commands = Vec::new(heap);
+// How many records there are: what the first command says, if it speaks of them. All lines are read before any is carried
+// out, so that a faulty one leaves nothing half done. What they ask for is read again then, and not kept: it would take more
+// memory than the text.
+fn read_lines(lines: &[&[u8]]) -> Result<u32, FaultyLine> {
+    let mut records = MOST_RECORDS;
+    let mut first = true;
     for (place, line) in lines.iter().enumerate() {
-        match parse(line, commands.is_empty()) {
-            Ok(Some(command)) => commands.push(command).map_err(|_| ReadError::NoMemory)?,
+        match parse(line, first) {
             Ok(None) => {}
-            Err(fault) => return Err(ReadError::Faulty(place, fault)),
+            Ok(Some(command)) => {
+                if let Command::Records(count) = command {
+                    records = count;
+                }
+                first = false;
+            }
+            Err(fault) => return Err(FaultyLine { place, fault }),
         }
     }
-    Ok(commands)
+    Ok(records)
 }
 
 // The records and vetoes of a document that is carried out.
@@ -85,29 +92,25 @@ impl Session {
     }
 
     fn list(&self, heap: Global, out: &mut Vec<u8>) -> Result<(), AllocError> {
-        let mut records: Vec<NameRecord> = (0..self.resolver.len())
-            .filter_map(|i| self.resolver.record_at(i))
-            .collect(heap)?;
-        write_records(&mut records, out)
+        print::records(heap, &self.resolver, out)
     }
 }
 
-// How many records there are: what the first command says, if it speaks of them.
-fn records_in(commands: &[Command<'_>]) -> u32 {
-    match commands {
-        [Command::Records(count), ..] => *count,
-        _ => MOST_RECORDS,
-    }
-}
-
-fn perform(heap: Global, commands: &[Command<'_>], out: &mut Vec<u8>) -> Result<(), AllocError> {
-    let records = records_in(commands);
+fn perform(
+    heap: Global,
+    lines: &[&[u8]],
+    records: u32,
+    out: &mut Vec<u8>,
+) -> Result<(), AllocError> {
     if !(1..=MOST_RECORDS).contains(&records) {
         return answer_lines::refused(Refusal::OutsideLimit, out);
     }
     let mut session = Session::new(heap, records as usize)?;
-    for command in commands {
-        session.perform(*command, out)?;
+    for line in lines {
+        // Each line has been read already, so `records` stands where it may.
+        if let Ok(Some(command)) = parse(line, true) {
+            session.perform(command, out)?;
+        }
     }
     session.list(heap, out)
 }
@@ -118,12 +121,10 @@ pub fn answer(
     document: DocumentLines<'_, '_>,
     out: &mut Vec<u8>,
 ) -> Result<(), AllocError> {
-    match read_commands(heap, document.lines) {
-        Ok(commands) => perform(heap, &commands, out),
-        Err(ReadError::Faulty(place, fault)) => {
-            let number = document.number_at(place);
-            answer_lines::fault(number, fault.words(), out)
+    match read_lines(document.lines) {
+        Ok(records) => perform(heap, document.lines, records, out),
+        Err(FaultyLine { place, fault }) => {
+            answer_lines::fault(document.number_at(place), fault.words(), out)
         }
-        Err(ReadError::NoMemory) => Err(AllocError),
     }
 }

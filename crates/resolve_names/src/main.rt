@@ -7,8 +7,7 @@ mod print;
 
 use document::answer;
 use documents::answers::answer_input;
-use std::io;
 
-fn main(rt: HostRuntime) -> io::Result<()> {
+fn main(rt: HostRuntime) -> anyhow::Result<()> {
     answer_input(rt.alloc(), &mut rt.stdin(), &mut rt.stdout(), answer)
 }
