@@ -23,6 +23,9 @@ fn read_lines(lines: &[&[u8]]) -> Result<u32, FaultyLine> {
     let mut records = MOST_RECORDS;
     let mut first = true;
     for (place, line) in lines.iter().enumerate() {
+        if line.is_empty() {
+            continue;
+        }
         match parse(line, first) {
             Ok(None) => {}
             Ok(Some(command)) => {
@@ -107,6 +110,9 @@ fn perform(
     }
     let mut session = Session::new(heap, records as usize)?;
     for line in lines {
+        if line.is_empty() {
+            continue;
+        }
         // Each line has been read already, so `records` stands where it may.
         if let Ok(Some(command)) = parse(line, true) {
             session.perform(command, out)?;
